@@ -1,12 +1,7 @@
 -- A leaf block that is added to a pass, and what stays the same.
 use Rattle.std.proofs.Common.{◌≡◌, ℕ, ◌≤◌, Bool, List, length, None, IsCharBoundary, ap}
 use Rattle.first_pass_grammar.proofs.Common.{Item, added, AreNamed}
-use Rattle.first_pass_names.specs.TableEntries.{names_of, NamesMore}
-use Rattle.first_pass_open.specs.Between.{line_end_at, AddsBetween}
-use Rattle.first_pass_lists.specs.Closing.{state_with}
-use Rattle.first_pass_lists.specs.declared.state.PassState.{PassState}
-use Rattle.first_pass_order.proofs.NamedLemmas.{block_added}
-use Rattle.first_pass_containers.proofs.OrderSteps.{block_ordered}
+use Rattle.first_pass_blocks.proofs.Common.{names_of, NamesMore, line_end_at, AddsBetween, state_with, PassState, block_added, block_ordered}
 use Rattle.first_pass.specs.declared.state.FirstPass.{FirstPass}
 use Rattle.first_pass.specs.Calls.{AddsLeafBlock, AddsLineBlock}
 use Rattle.first_pass.specs.Kept.{KeepsNames}
@@ -14,7 +9,7 @@ use Rattle.first_pass.specs.Views.{allocs_of, braces_of, state_of, source_of, so
 
 -- These items were added. Otherwise only the tables of entries, the mark of an empty item, and the mark of a counting
 -- blank line before may have changed.
-module _ (old new : FirstPass) (blank : Bool) (items : List (ℕ × Item))
+module _ {old new : FirstPass} {blank : Bool} (items : List (ℕ × Item))
     (same : (source_of new ≡ source_of old) × (braces_of new ≡ braces_of old) × (state_of new ≡ state_with (tree_of new) None blank))
     (more : NamesMore (allocs_of old) (allocs_of new)) (tree_is : tree_of new ≡ added (tree_of old) items)
     (own : AreNamed (names_of (allocs_of new)) items) where
@@ -28,10 +23,10 @@ module _ (old new : FirstPass) (blank : Bool) (items : List (ℕ × Item))
     braces = same.1;
   }
 
-  pub adds_leaf : (start next : ℕ)
+  pub adds_leaf : {start next : ℕ}
       → ((from : ℕ) → from ≤ start → IsCharBoundary (source_text old) start → AddsBetween (source_text old) from next (tree_of old) (tree_of new))
       → next ≤ length (source_text old) → AddsLeafBlock old new start next blank
-  adds_leaf start next fits within = record {
+  adds_leaf {start = start} {next = next} fits within = record {
     kept = adds_kept;
     state = same.2;
     fits = fits;
@@ -40,10 +35,10 @@ module _ (old new : FirstPass) (blank : Bool) (items : List (ℕ × Item))
         (ap (λ (r : PassState). r.begin_list_item) same.2);
   }
 
-  pub adds_lines : (start next : ℕ) → ((from : ℕ) → from ≤ start → AddsBetween (source_text old) from next (tree_of old) (tree_of new))
+  pub adds_lines : {start next : ℕ} → ((from : ℕ) → from ≤ start → AddsBetween (source_text old) from next (tree_of old) (tree_of new))
       → (line_end_at (source_text old) start ≤ next) × IsCharBoundary (source_text old) next → AddsLineBlock old new start next blank
-  adds_lines start next fits ends = record {
-    leaf = adds_leaf start next (λ from low begins. fits from low) ends.1.0;
+  adds_lines fits ends = record {
+    leaf = adds_leaf (λ from low begins. fits from low) ends.1.0;
     later = ends.0;
     boundary = ends.1;
   }

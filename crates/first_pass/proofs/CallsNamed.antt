@@ -1,33 +1,22 @@
 -- After each call, each index in the nodes names an entry, if each did before.
-use Rattle.std.proofs.Common.{◌≡◌, inl, inr, ℕ, zero, suc, ◌+◌, ◌-◌, ◌&&◌, nat_lt, Bool, List, [], ◌∷◌, ◌++◌, length, length-append, take, drop, Option}
-use Rattle.std.proofs.Common.{Some, None, IfSome, IsSomeAnd, MatchOption, IsCharBoundary, sym, ap, subst, ◌∙◌, arith}
+use Rattle.std.proofs.Common.{◌≡◌, inl, inr, ℕ, zero, suc, ◌+◌, ◌-◌, ◌&&◌, nat_lt, Bool, List, [], ◌∷◌, ◌++◌, length, take, drop, Option, Some, None, IfSome}
+use Rattle.std.proofs.Common.{IsSomeAnd, IsCharBoundary, arith}
 use Rattle.first_pass_grammar.proofs.Common.{cond_both, slice_get_within, HeadingLevel, Item, ItemBody, Heading, TableHead, TableRow, TreeIndex, Forest}
 use Rattle.first_pass_grammar.proofs.Common.{appended, at_depth, cut_tokens, is_text, item_at, open_place, with_end, Place, line_place, line_is_place}
 use Rattle.first_pass_grammar.proofs.Common.{MathBraces, no_braces, spot, Inline, with_tokens, AppendsLine, lines_from, IsHtml, Document, block_with}
 use Rattle.first_pass_grammar.proofs.Common.{heading_block, rule_block, Names, Extends, AreNamed, index_of, AreColumns, range_text, range_html, IsRawLine}
 use Rattle.first_pass_grammar.proofs.Common.{AreRawLines, AreCells, row_block, table_so_far, inserted, most_inserted, taking}
-use Rattle.first_pass_tree.specs.Forest.{joins_at}
-use Rattle.first_pass_tokens.specs.TreeTokens.{with_token, AppendsCell}
+use Rattle.first_pass_blocks.proofs.Common.{joins_at, with_token, AppendsCell, named_more, text_named, closed_by, path_of, range_of, RawKind, Code, Html}
+use Rattle.first_pass_blocks.proofs.Common.{with_below, OpenTable, ReadsRowLine, AppendsRows, AddsHeading, BecomesHeading, CutsChildren, AddsText}
+use Rattle.first_pass_blocks.proofs.Common.{block_added}
 use Rattle.first_pass_grammar.proofs.Each.EachToken.{AreEach, both_each, cell_each, heading_each, line_each, raw_each, range_text_each}
-use Rattle.first_pass_grammar.proofs.Names.MoreNames.{extends_none, extends_named}
+use Rattle.first_pass_grammar.proofs.Names.MoreNames.{extends_none}
 use Rattle.first_pass_grammar.proofs.Names.NamedItems.{HasEntry, IsNamed, block_named, each_named, html_is_free, lines_named, named_both, named_deeper}
-use Rattle.first_pass_grammar.proofs.Names.NamedItems.{named_modified, named_more, text_is_free, tokens_entered}
+use Rattle.first_pass_grammar.proofs.Names.NamedItems.{named_modified, text_is_free, tokens_entered}
 use Rattle.first_pass_grammar.proofs.Each.EachCell.{both_nodes, cells_nodes, nodes_named, row_nodes, rows_nodes}
-use Rattle.first_pass_grammar.proofs.Names.TextsNamed.{given_entry, text_named}
-use Rattle.first_pass_names.specs.TableEntries.{names_of}
-use Rattle.first_pass_open.specs.OpenBlock.{closed_by}
-use Rattle.first_pass_open.specs.Path.{path_of}
-use Rattle.first_pass_raw.specs.RawBlocks.{AppendsRaw, range_of}
-use Rattle.first_pass_raw.specs.declared.raw_line.RawKind.{RawKind}
-use Rattle.first_pass_raw.specs.declared.raw_line.RawKind.TheVariants.{Code, Html}
-use Rattle.first_pass_tables.specs.Appends.{with_below, OpenTable, ReadsRow, ReadsRowLine, AppendsRows}
-use Rattle.first_pass_text.specs.Appends.{AddsHeading}
-use Rattle.first_pass_text.specs.CutTexts.{BecomesHeading, CutsChildren}
-use Rattle.first_pass_blocks.specs.OpenedFootnotes.{StaysSame, OpenedFootnote, ReadsFootnote}
-use Rattle.first_pass_containers.specs.TextsAdded.{AddsText}
-use Rattle.first_pass_blocks.specs.declared.state.BlockPass.{BlockPass}
-use Rattle.first_pass_blocks.specs.Views as Block
-use Rattle.first_pass_order.proofs.NamedLemmas.{block_added, note_named}
+use Rattle.first_pass_grammar.proofs.Names.TextsNamed.{given_entry}
+use Rattle.first_pass_raw.specs.RawBlocks.{AppendsRaw}
+use Rattle.first_pass_tables.specs.Appends.{ReadsRow}
 use Rattle.first_pass.proofs.CutOrder.{cut_cases}
 
 -- Tokens follow the nodes of a tree; the first of them may be joined to the last node.
@@ -47,25 +36,23 @@ tokens_named names f [] h own = h
 tokens_named names f (x ∷ tokens) h own = tokens_named names (with_token f x) tokens (token_named names f x h own.0) own.1
 
 -- a line, and a cell
-pub line_named : {after : MathBraces} (names before : Names) (s : Inline) (old new : Forest Item) (answer : ℕ × Option Item) → Extends names before
+pub line_named : {after : MathBraces} {names before : Names} {s : Inline} {old new : Forest Item} {answer : ℕ × Option Item} → Extends names before
     → AppendsLine names.texts s old new answer after → AreNamed before old.nodes → AreNamed names new.nodes
-line_named names before s old new answer more h own =
-    subst (λ (f : Forest Item). AreNamed names f.nodes) (sym h.tree_is)
-    (tokens_named names old h.tokens (named_more names before old.nodes more own)
+line_named {names = names} {before = before} {s = s} {old = old} {answer = answer} more h own =
+    rw h.tree_is (tokens_named names old h.tokens (named_more names before old.nodes more own)
     (line_each names.texts (HasEntry names) (tokens_entered names) s h.tokens answer h.line))
 
-pub cell_named : {after : MathBraces} (names before : Names) (s : Inline) (old new : Forest Item) (stop : ℕ) → Extends names before
+pub cell_named : {after : MathBraces} {names before : Names} {s : Inline} {old new : Forest Item} {stop : ℕ} → Extends names before
     → AppendsCell names.texts s old new stop after → AreNamed before old.nodes → AreNamed names new.nodes
-cell_named names before s old new stop more h own =
-    subst (λ (f : Forest Item). AreNamed names f.nodes) (sym h.tree_is)
-    (tokens_named names old h.tokens (named_more names before old.nodes more own)
+cell_named {names = names} {before = before} {s = s} {old = old} {stop = stop} more h own =
+    rw h.tree_is (tokens_named names old h.tokens (named_more names before old.nodes more own)
     (cell_each names.texts (HasEntry names) (tokens_entered names) s h.tokens stop h.cell))
 
 -- a raw line
 owed_each : (names : Names) (owed at : ℕ) (items : List Item) → AreColumns names owed at items → AreEach (HasEntry names) items
-owed_each names zero at items is = subst (AreEach (HasEntry names)) (sym is) tt
+owed_each names zero at items is = rw is tt
 owed_each names (suc n) at items (ix, (named, at_ix, text), is) =
-    subst (AreEach (HasEntry names)) (sym is) (slice_get_within names.texts ix.0 named at_ix, tt)
+    rw is (slice_get_within names.texts ix.0 named at_ix, tt)
 
 range_each : (names : Names) (kind : RawKind) (a b : ℕ) → AreEach (HasEntry names) (range_of kind a b)
 range_each names Code a b = range_text_each (HasEntry names) (λ escaped. tt) a b
@@ -74,15 +61,13 @@ range_each names Html a b = (tt, tt)
 raw_line_each : (d : Document) (kind : RawKind) (owed from to : ℕ) (items : List Item) → IsRawLine (range_of kind) d owed from to items
     → AreEach (HasEntry d.names) items
 raw_line_each d kind owed from to items (columns, are, is) =
-    subst (AreEach (HasEntry d.names)) (sym is)
-    (both_each (HasEntry d.names) columns _ (owed_each d.names owed from columns are)
+    rw is (both_each (HasEntry d.names) columns _ (owed_each d.names owed from columns are)
     (raw_each (HasEntry d.names) (range_of kind) d.text from to (range_each d.names kind)))
 
 pub raw_line_named : (d : Document) (kind : RawKind) (owed from to : ℕ) (before : Names) (old new : Forest Item) → Extends d.names before
     → AppendsRaw (range_of kind) d.text d.names owed from to old new → AreNamed before old.nodes → AreNamed d.names new.nodes
 raw_line_named d kind owed from to before old new more h own =
-    subst (λ (f : Forest Item). AreNamed d.names f.nodes) (sym h.tree_is)
-    (tokens_named d.names old h.items (named_more d.names before old.nodes more own)
+    rw h.tree_is (tokens_named d.names old h.items (named_more d.names before old.nodes more own)
     (raw_line_each d kind owed from to h.items (h.are d.options d.names (extends_none d.names))))
 
 -- the items of a leaf block
@@ -92,28 +77,28 @@ unfolding AreNamed
 code_named d places body start stop chain items is own lines =
     block_named d.names start stop body chain items is own (lines_named range_text d [] places chain text_is_free tt lines)
 
-pub html_named : (d : Document) (start columns : ℕ) (places : List Place) (e : ℕ) (items : List (ℕ × Item)) → IsHtml d start columns places e items
+pub html_named : {d : Document} {start columns : ℕ} {places : List Place} {e : ℕ} {items : List (ℕ × Item)} → IsHtml d start columns places e items
     → AreNamed d.names items
 unfolding AreNamed
-html_named d start columns places e items is =
+html_named {d = d} {items = items} is =
     block_named d.names _ _ _ is.chain items is.items_are tt (lines_named range_html d [] _ is.chain html_is_free tt is.lines)
 
 pub rule_named : (names : Names) (start size : ℕ) → AreNamed names (rule_block start size)
 unfolding AreNamed
 rule_named names start size = (tt, tt)
 
-pub atx_named : (d : Document) (start : ℕ) (level : HeadingLevel) (old new : Forest Item) (next : ℕ) (a : AddsHeading d start level old new next)
+pub atx_named : {d : Document} {start : ℕ} {level : HeadingLevel} {old new : Forest Item} {next : ℕ} (a : AddsHeading d start level old new next)
     → AreNamed d.names (heading_block start next level a.index a.chain)
 unfolding AreNamed
-atx_named d start level old new next a =
+atx_named {d = d} {next = next} a =
     let line = a.line d.names (extends_none d.names) in (
       given_entry d.names a.index _ line.named,
       named_deeper d.names 1 _ (each_named d.names a.chain (heading_each (HasEntry d.names) d (tokens_entered d.names) _ a.index a.chain next line)),
     )
 
-pub text_added : (d : Document) (start : ℕ) (marker : Option Item) (old new : Forest Item) (next : ℕ) (a : AddsText d start marker old new next)
+pub text_added : {d : Document} {start : ℕ} {marker : Option Item} {old new : Forest Item} {next : ℕ} (a : AddsText d start marker old new next)
     → IsCharBoundary d.text start → IfSome marker (λ x. index_of x.body ≡ None) → AreNamed d.names a.items
-text_added d start marker old new next a boundary free =
+text_added {d = d} {start = start} {marker = marker} {old = old} {next = next} a boundary free =
     let p : Place = line_place start (drop start d.text) in
     let there = line_is_place d.text start boundary in
     text_named d (path_of d.options old) p marker _ (taking a.items (lines_from d.text next)) free
@@ -129,7 +114,7 @@ row_by d columns start cells stop before after are =
 pub row_named : (d : Document) (columns start : ℕ) (old new : OpenTable) (answer : Option (ℕ × TreeIndex)) (before : Names) → Extends d.names before
     → ReadsRow d columns start old new answer → AreNamed before old.tree.nodes → AreNamed d.names new.tree.nodes
 row_named d columns start old new None before more r h =
-    subst (λ (t : OpenTable). AreNamed d.names t.tree.nodes) (sym r.adds.1) (named_more d.names before old.tree.nodes more h)
+    rw r.adds.1 (named_more d.names before old.tree.nodes more h)
 row_named d columns start old new (Some (stop, ix)) before more r h =
     block_added d.names before old.tree new.tree (row_block TableRow columns start r.cells r.row_end) more r.adds.1
     (row_by d columns start r.cells r.row_end old.braces r.after r.are_cells) h
@@ -137,16 +122,16 @@ row_named d columns start old new (Some (stop, ix)) before more r h =
 pub row_line_named : (d : Document) (columns ix : ℕ) (old new : OpenTable) (answer : Option (ℕ × TreeIndex)) (before : Names) → Extends d.names before
     → ReadsRowLine d columns ix old new answer → AreNamed before old.tree.nodes → AreNamed d.names new.tree.nodes
 row_line_named d columns ix old new answer before more (inl (none, is, same)) h =
-    subst (λ (t : OpenTable). AreNamed d.names t.tree.nodes) (sym same) (named_more d.names before old.tree.nodes more h)
+    rw same (named_more d.names before old.tree.nodes more h)
 row_line_named d columns ix old new answer before more (inr (start, at, r)) h = row_named d columns start old new answer before more r h
 
 closed_named : (names : Names) (f : Forest Item) (e : ℕ) (s : List TreeIndex) → AreNamed names f.nodes → AreNamed names (closed_by f e s).nodes
 closed_named names f e [] h = h
 closed_named names f e (ix ∷ rest) h = named_modified names f.nodes ix.0 (λ x. record x { «end» = e }) (λ x k. k) h
 
-pub rows_named : (d : Document) (columns head_start body_start : ℕ) (old new : Forest Item) (next : ℕ) (before : Names) → Extends d.names before
+pub rows_named : {d : Document} {columns head_start body_start : ℕ} {old new : Forest Item} {next : ℕ} {before : Names} → Extends d.names before
     → AppendsRows d columns head_start body_start old new next → AreNamed before old.nodes → AreNamed d.names new.nodes
-rows_named d columns head_start body_start old new next before more r h =
+rows_named {d = d} {columns = columns} {head_start = head_start} {body_start = body_start} {old = old} {next = next} {before = before} more r h =
     let P : ItemBody → Type 0 = HasEntry d.names in
     let holds = tokens_entered d.names in
     let head : List (ℕ × Item) = row_block TableHead columns head_start r.cells r.head_end in
@@ -155,8 +140,7 @@ rows_named d columns head_start body_start old new next before more r h =
     (lines_from d.text body_start) (taking r.body (lines_from d.text next)) tt r.are_rows in
     let items : List (ℕ × Item) = head ++ r.body in
     let own = nodes_named d.names items (both_nodes P head r.body (row_nodes P TableHead columns head_start r.cells r.head_end tt tt cells) rows) in
-    subst (λ (f : Forest Item). AreNamed d.names f.nodes) (sym r.tree_is)
-    (closed_named d.names (with_below old items) next old.spine
+    rw r.tree_is (closed_named d.names (with_below old items) next old.spine
     (named_both d.names old.nodes (at_depth (length old.spine + 1) items) (named_more d.names before old.nodes more h)
     (named_deeper d.names (length old.spine + 1) items own)))
 
@@ -178,41 +162,15 @@ parts_named names (suc k) (n ∷ nodes) h = (let (front, rest) = parts_named nam
 children_named : (names : Names) (text : List ℕ) (old cut : Forest Item) (o : Option Item) → IsSomeAnd o (λ x. CutsChildren text x.start old cut)
     → AreNamed names old.nodes → AreNamed names cut.nodes
 children_named names text old cut None cuts h = absurd cuts
-children_named names text old cut (Some x) (inl same) h = subst (λ (f : Forest Item). AreNamed names f.nodes) (sym same) h
+children_named names text old cut (Some x) (inl same) h = rw same h
 children_named names text old cut (Some x) (inr (e, low, b, is)) h =
     let k : ℕ = open_place old.spine + 1 in
     let (front, rest) = parts_named names k old.nodes h in
-    subst (λ (f : Forest Item). AreNamed names f.nodes) (sym is)
-    (named_both names (take k old.nodes) (cut_tokens e (length old.spine + 1) (drop k old.nodes)) front
+    rw is (named_both names (take k old.nodes) (cut_tokens e (length old.spine + 1) (drop k old.nodes)) front
     (cut_named names e (length old.spine + 1) (drop k old.nodes) rest))
 
-pub heading_named : (d : Document) (level : HeadingLevel) (broken : Bool) (block : TreeIndex) (old new : Forest Item) (before : Names) → Extends d.names before
+pub heading_named : {d : Document} {level : HeadingLevel} {broken : Bool} {block : TreeIndex} {old new : Forest Item} {before : Names} → Extends d.names before
     → BecomesHeading d level broken block old new → AreNamed before old.nodes → AreNamed d.names new.nodes
-heading_named d level broken block old new before more heads h =
+heading_named {d = d} {level = level} {block = block} {old = old} {before = before} more heads h =
     let own = children_named d.names d.text old heads.cut (item_at old block) heads.children (named_more d.names before old.nodes more h) in
-    subst (λ (f : Forest Item). AreNamed d.names f.nodes) (sym heads.tree_is)
-    (named_modified d.names heads.cut.nodes block.0 (λ x. record x { body = Heading level heads.index }) (λ x k. heads.entry) own)
-
--- a footnote definition is opened, or none begins
-module _ (old new : BlockPass) (start : ℕ) (h : AreNamed (names_of (Block.allocs_of old)) (Block.tree_of old).nodes) where
-  footnote_opened : (head : ℕ × List ℕ) → OpenedFootnote start head old new → AreNamed (names_of (Block.allocs_of new)) (Block.tree_of new).nodes
-  footnote_opened head opened =
-      let names : Names = names_of (Block.allocs_of new) in
-      let before : Names = names_of (Block.allocs_of old) in
-      let size = ap (λ (n : Names). length n.texts) opened.names ∙ length-append before.texts (opened.text ∷ []) in
-      let last = opened.last in
-      subst (λ r. AreNamed names r.tree.nodes) (sym opened.opened)
-      (note_named names start opened.index (Block.state_of old) (omega arith)
-      (named_more names before (Block.tree_of old).nodes (extends_named before names opened.text opened.names) h))
-
-  note_by : (o : Option (ℕ × List ℕ)) (size : Option ℕ) (Len : ℕ → ℕ × List ℕ → Type 0)
-      → MatchOption o ((size ≡ None) × StaysSame old new) (λ head. IsSomeAnd size (λ n. Len n head × OpenedFootnote start head old new))
-      → AreNamed (names_of (Block.allocs_of new)) (Block.tree_of new).nodes
-  note_by None size Len (none, same) =
-      subst (λ z. AreNamed (names_of z) (Block.tree_of new).nodes) (sym same.2)
-      (subst (λ r. AreNamed (names_of (Block.allocs_of old)) r.tree.nodes) (sym same.1) h)
-  note_by (Some head) None Len opened = absurd opened
-  note_by (Some head) (Some size) Len opened = footnote_opened head opened.1
-
-  pub footnote_named : (size : Option ℕ) → ReadsFootnote old new start size → AreNamed (names_of (Block.allocs_of new)) (Block.tree_of new).nodes
-  footnote_named size reads = note_by _ size _ reads
+    rw heads.tree_is (named_modified d.names heads.cut.nodes block.0 (λ x. record x { body = Heading level heads.index }) (λ x k. heads.entry) own)

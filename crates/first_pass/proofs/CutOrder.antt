@@ -1,21 +1,20 @@
 -- The tokens in an open block are cut off at an offset, and the block becomes a heading: a tree in order stays in
 -- order.
-use Rattle.std.proofs.Common.{◌≡◌, inl, inr, ℕ, zero, suc, ◌+◌, ◌-◌, ◌<◌, ◌≤◌, ◌==◌, ◌&&◌, nat_lt, min, max, Bool, true, false, if◌then◌else◌, List, []}
-use Rattle.std.proofs.Common.{◌∷◌, ◌++◌, append_assoc, length, take, drop, slice_get, slice_index, Option, Some, IsSomeAnd, IsCharBoundary, refl, sym, ap}
-use Rattle.std.proofs.Common.{subst, ◌∙◌, arith, option_map, eqb-true, ltb-true, length-take, take-append-drop}
+use Rattle.std.proofs.Common.{◌≡◌, inl, inr, ℕ, suc, ◌+◌, ◌-◌, ◌<◌, ◌≤◌, ◌==◌, ◌&&◌, nat_lt, min, max, Bool, true, false, if◌then◌else◌, List, [], ◌∷◌, ◌++◌}
+use Rattle.std.proofs.Common.{append_assoc, length, take, drop, slice_get, slice_index, Option, Some, IsSomeAnd, IsCharBoundary, refl, sym, ap, subst, ◌∙◌}
+use Rattle.std.proofs.Common.{arith, option_map, eqb-true, ltb-true, length-take, take-append-drop, length-append}
 use Rattle.first_pass_grammar.proofs.Common.{and_parts, cases_lt, cond_both, false≢true, nat_tests, none-some, same_Some, IsCharBoundary-before_ascii}
 use Rattle.first_pass_grammar.proofs.Common.{backslash, HeadingIndex, HeadingLevel, Item, ItemBody, Paragraph, Heading, DefinitionListTitle}
 use Rattle.first_pass_grammar.proofs.Common.{MaybeDefinitionListTitle, Text, TreeIndex, Forest, body_at, cut_item, cut_siblings, cut_tokens, is_escaped}
 use Rattle.first_pass_grammar.proofs.Common.{item_at, open_place, with_body_at, Document, laid_open, AreAt, open_within, FitsOpen, IsOrderedTo, Ranged}
-use Rattle.first_pass_grammar.proofs.Common.{extent_of, extents, is_text_block, Siblings, Empty, laid, Within, Elsewhere, InText, below, beyond, IsLead}
-use Rattle.first_pass_grammar.proofs.Common.{Fits, body_of}
+use Rattle.first_pass_grammar.proofs.Common.{extent_of, extents, is_text_block, Siblings, Empty, laid, Within, Elsewhere, InText, below, beyond, IsLead, Fits}
+use Rattle.first_pass_grammar.proofs.Common.{body_of, slice_get_within, some_mapped}
+use Rattle.first_pass_blocks.proofs.Common.{Node, ended_at, length-places, get_front, BecomesHeading, CutsChildren, ordered_same}
 use Rattle.first_pass_items.specs.declared.item.ItemBody.TheVariants.{TightParagraph}
-use Rattle.first_pass_grammar.specs.Order.{Node}
-use Rattle.first_pass_grammar.proofs.Order.Orders.{ended_at, extents-append, fits-one, fits-order, laid-one, length-places}
-use Rattle.first_pass_open.proofs.PathLemmas.{get_front}
-use Rattle.first_pass_text.specs.CutTexts.{BecomesHeading, CutsChildren}
-use Rattle.first_pass_order.proofs.OrderLemmas.{extents-body, flags_of, ordered_same}
+use Rattle.first_pass_grammar.proofs.Order.Orders.{extents-append, fits-one, fits-order, laid-one}
+use Rattle.first_pass_order.proofs.OrderLemmas.{extents-body, flags_of, top_there}
 use Rattle.first_pass.specs.Holds.{StandsAfterBackslash, AreTokens, HoldsTokens}
+use Rattle.first_pass_order.proofs.RowSplits.{extents-split}
 
 -- what is made of the first of the nodes that are cut
 pub cut_cases : (e d : ℕ) (n : ℕ × Item) (nodes : List (ℕ × Item)) (P : List (ℕ × Item) → Type 0)
@@ -24,22 +23,6 @@ pub cut_cases : (e d : ℕ) (n : ℕ × Item) (nodes : List (ℕ × Item)) (P : 
     → P [] → P (cut_tokens e d (n ∷ nodes))
 cut_cases e d n nodes P deeper kept escaped none =
     cond_both _ _ _ P deeper (λ b. cond_both _ _ _ P kept (λ b. cond_both _ _ _ P escaped (λ b. none)))
-
--- the nodes up to a place, those after it, and the item there
-split_places : (nodes : List (ℕ × Item)) (before : List (ℕ × Ranged)) (n : ℕ × Ranged) (more : List (ℕ × Ranged)) → extents nodes ≡ before ++ n ∷ more
-    → (extents (take (suc (length before)) nodes) ≡ before ++ n ∷ []) × (extents (drop (suc (length before)) nodes) ≡ more)
-    × ((x : Item) → option_map (λ (m : ℕ × Item). m.1) (slice_get nodes (length before)) ≡ Some x → extent_of x ≡ n.1)
-split_places [] [] n more is = absurd cc
-split_places [] (y ∷ before) n more is = absurd cc
-split_places (m ∷ nodes) [] n more is =
-    let x : (m.0, extent_of m.1) ≡ n = cc in
-    let y : extents nodes ≡ more = cc in
-    (ap (λ (z : ℕ × Ranged). z ∷ []) x, y, λ z e. ap extent_of (sym (same_Some m.1 z e)) ∙ ap (λ (w : ℕ × Ranged). w.1) x)
-split_places (m ∷ nodes) (y ∷ before) n more is =
-    let x : (m.0, extent_of m.1) ≡ y = cc in
-    let z : extents nodes ≡ before ++ n ∷ more = cc in
-    let r = split_places nodes before n more z in
-    (ap (λ (w : List (ℕ × Ranged)). (m.0, extent_of m.1) ∷ w) r.0 ∙ ap (λ (w : ℕ × Ranged). w ∷ (before ++ n ∷ [])) x, r.1, r.2)
 
 -- a token has no children
 only_leaf : (text : List ℕ) (d low : ℕ) (nodes : List (ℕ × Item)) (kids next : Siblings) → extents nodes ≡ laid (suc d) kids ++ laid d next
@@ -83,13 +66,8 @@ lead_cut text w from e x less b h = absurd h
 -- a token that remains
 end_by : (t : Bool) (e : ℕ) (y : Item) → nat_lt e y.«end» ≡ t
     → extent_of (if t then record y { «end» = e } else y) ≡ ended_at (extent_of y) (min y.«end» e)
-end_by true e y h =
-    let less = ltb-true e y.«end» h in
-    let same : e ≡ min y.«end» e = omega arith in
-    ap (ended_at (extent_of y)) same
-end_by false e y h =
-    let same : y.«end» ≡ min y.«end» e = grind (arith, nat_tests, h) in
-    ap (ended_at (extent_of y)) same
+end_by true e y h = (let same : e ≡ min y.«end» e = grind (arith, nat_tests, h) in ap (ended_at (extent_of y)) same)
+end_by false e y h = (let same : y.«end» ≡ min y.«end» e = grind (arith, nat_tests, h) in ap (ended_at (extent_of y)) same)
 
 -- these nodes form a row that fits as before, but ends at the earlier offset
 abbrev CutFits : List ℕ → Within → ℕ → ℕ → ℕ → ℕ → List (ℕ × Item) → Type 0
@@ -248,19 +226,18 @@ module _ (text : List ℕ) (f : Forest Item) (at e : ℕ) (block : TreeIndex) (r
       let k : ℕ = suc (length front) in
       let place : open_place f.spine + 1 ≡ k = (let o : open_place f.spine ≡ block.0 = ap open_place spine in omega arith) in
       let next : block.0 + 1 ≡ k = omega arith in
-      let parts = split_places f.nodes front mid (laid d row) nodes in
-      let same = parts.2 x (subst (λ i. option_map (λ (m : ℕ × Item). m.1) (slice_get f.nodes i) ≡ Some x) here there) in
+      let (m, is_m, extent) = top_there f.nodes root level levels row block nodes here in
+      let same : extent_of x ≡ level.1 =
+      ap extent_of (sym (same_Some m.1 x (subst (λ o. option_map (λ (m : ℕ × Item). m.1) o ≡ Some x) is_m there))) ∙ ap (λ (z : ℕ × Ranged). z.1) extent in
+      let count = length-append front (mid ∷ []) in
+      let parts = extents-split f.nodes (front ++ mid ∷ []) (laid d row) k (nodes ∙ sym (append_assoc front (mid ∷ []) (laid d row))) (omega arith) in
       let start_is : x.start ≡ level.1.start = ap (λ (y : Ranged). y.start) same in
-      let all_tokens : AreTokens text d x.start (drop k f.nodes) =
-      subst (λ k. AreTokens text d x.start (drop k f.nodes)) next
-      (subst (λ k. AreTokens text k x.start (drop (block.0 + 1) f.nodes)) depth tokens) in
+      let all_tokens : AreTokens text d x.start (drop k f.nodes) = rw (← next, ← depth) tokens in
       let w : Within = below (open_within levels) from level.1 in
       let (cut, is, fits) = cut_row text w level.1.start at e d x.start (drop k f.nodes) row b
       (record { later = omega arith; extents_are = parts.1; tokens = all_tokens; fits = inside }) in
       let first : min level.1.start e ≡ level.1.start = omega arith in
-      let all : (cut_siblings f e).nodes ≡ take k f.nodes ++ cut_tokens e d (drop k f.nodes) =
-      ap (λ k. take k f.nodes ++ cut_tokens e (length f.spine + 1) (drop k f.nodes)) place
-      ∙ ap (λ z. take k f.nodes ++ cut_tokens e z (drop k f.nodes)) depth in (
+      let all : (cut_siblings f e).nodes ≡ take k f.nodes ++ cut_tokens e d (drop k f.nodes) = rw (place, depth) refl in (
         cut,
         ap extents all ∙ extents-append (take k f.nodes) (cut_tokens e d (drop k f.nodes))
             ∙ ap (λ (z : List (ℕ × Ranged)). z ++ extents (cut_tokens e d (drop k f.nodes))) parts.0
@@ -287,7 +264,8 @@ block_kept : (f : Forest Item) (e : ℕ) (block : TreeIndex) (x : Item) → slic
     → body_at (cut_siblings f e).nodes block.0 ≡ Some x.body
 block_kept f e block x spine there =
     let place : open_place f.spine ≡ block.0 = ap open_place (open_as f.spine block spine).1 in
-    let within : block.0 < length f.nodes = some_within f.nodes block.0 x there in
+    let within : block.0 < length f.nodes = slice_get_within f.nodes block.0 _
+    (some_mapped (λ (n : ℕ × Item). n.1) (slice_get f.nodes block.0) x there).1 in
     let k : ℕ = open_place f.spine + 1 in
     let long : length (take k f.nodes) ≡ min k (length f.nodes) = length-take k f.nodes in
     let cut : List (ℕ × Item) = cut_tokens e (length f.spine + 1) (drop k f.nodes) in
@@ -296,11 +274,6 @@ block_kept f e block x spine there =
     get_front (take k f.nodes) cut block.0 inside ∙ sym (get_front (take k f.nodes) (drop k f.nodes) block.0 inside)
     ∙ ap (λ (ns : List (ℕ × Item)). slice_get ns block.0) (take-append-drop k f.nodes) in
     body_of (cut_siblings f e) block x (ap (option_map (λ (m : ℕ × Item). m.1)) same ∙ there)
-  where
-    some_within : (nodes : List (ℕ × Item)) (i : ℕ) (x : Item) → option_map (λ (n : ℕ × Item). n.1) (slice_get nodes i) ≡ Some x → i < length nodes
-    some_within [] i x there = absurd (none-some x there)
-    some_within (n ∷ nodes) zero x there = omega arith
-    some_within (n ∷ nodes) (suc i) x there = (let h = some_within nodes i x there in omega arith)
 
 -- the children are cut, or not: the body of the block stays, and the order
 children_cut : (text : List ℕ) (f cut : Forest Item) (block : TreeIndex) (at : ℕ) → slice_get f.spine 0 ≡ Some block → (h : HoldsTokens text f block)
@@ -313,12 +286,11 @@ children_cut text f cut block at spine h (inr (e, low, b, is)) o =
     (block_kept f e block h.node spine h.there, cut_ordered text f at e block rest h.node spine_is h.there h.tokens low b o)
 
 -- A block that contains tokens becomes a heading.
-pub heading_ordered : (d : Document) (level : HeadingLevel) (broken : Bool) (block : TreeIndex) (old new : Forest Item) (at : ℕ)
+pub heading_ordered : {d : Document} {level : HeadingLevel} {broken : Bool} {block : TreeIndex} {old new : Forest Item} {at : ℕ}
     → slice_get old.spine 0 ≡ Some block → BecomesHeading d level broken block old new → HoldsTokens d.text old block → IsOrderedTo d.text old at
     → IsOrderedTo d.text new at
-heading_ordered d level broken block old new at spine heads h o =
+heading_ordered {d = d} {level = level} {block = block} {old = old} {at = at} spine heads h o =
     let children = subst (λ (z : Option Item). IsSomeAnd z (λ x. CutsChildren d.text x.start old heads.cut)) h.there heads.children in
     let (body, cut) = children_cut d.text old heads.cut block at spine h children o in
-    subst (λ (g : Forest Item). IsOrderedTo d.text g at) (sym heads.tree_is)
-    (ordered_same d.text heads.cut (with_body_at heads.cut block (Heading level heads.index)) at
+    rw heads.tree_is (ordered_same d.text heads.cut (with_body_at heads.cut block (Heading level heads.index)) at
     (extents-body heads.cut.nodes block.0 h.node.body (Heading level heads.index) body (text_flags level heads.index h.node.body h.has_text)) refl cut)

@@ -5,17 +5,14 @@ use Rattle.first_pass_grammar.proofs.Common.{and_parts, CowStr, MathBraces, Item
 use Rattle.first_pass_grammar.proofs.Common.{is_text, with_end_at, with_end, appended, modified-is, AreInOrder, with_tokens, AppendsLine, order_bound}
 use Rattle.first_pass_grammar.proofs.Common.{order_to, order_from, line_in_order, cell_end_place, Document, text_upto, Ranged, extent_of, is_task_marker}
 use Rattle.first_pass_grammar.proofs.Common.{Empty, laid, IsBetween, laid_open, FitsOpen, IsOrderedTo}
-use Rattle.first_pass_tree.specs.Forest.{ends_text_at, joins_at}
+use Rattle.first_pass_blocks.proofs.Common.{joins_at, with_token, AppendsCell, Node, ended_at, length-places, PassState, reached, IsOrderedAt, ordered_later}
+use Rattle.first_pass_blocks.proofs.Common.{ordered_appended, ordered_none}
+use Rattle.first_pass_tree.specs.Forest.{ends_text_at}
 use Rattle.first_pass_tree.proofs.Keeps.{appended-is}
-use Rattle.first_pass_tokens.specs.TreeTokens.{with_token, AppendsCell}
 use Rattle.first_pass_tokens.proofs.OrderLemmas.{cell_in_order}
 use Rattle.first_pass_text.proofs.TextFronts.{front_utf8, place_in_front, place_in_text, order_in_text}
-use Rattle.first_pass_grammar.specs.Order.{Node}
-use Rattle.first_pass_grammar.proofs.Order.Orders.{beside, ended_at, laid_open-beside, length-places, extents-ended}
+use Rattle.first_pass_grammar.proofs.Order.Orders.{beside, laid_open-beside, extents-ended}
 use Rattle.first_pass_order.proofs.RowSplits.{last_child, fits_open_last}
-use Rattle.first_pass_lists.specs.declared.state.PassState.{PassState}
-use Rattle.first_pass_order.specs.Ordered.{reached, IsOrderedAt}
-use Rattle.first_pass_order.proofs.OrderLemmas.{ordered_later, ordered_appended, ordered_none}
 
 -- the last child of the innermost open node ends later; it is not a task list item marker
 pub ordered_ended : (text : List ℕ) (f : Forest Item) (a e : ℕ) (c : TreeIndex) (y : Item) → IsLastAt (depths f.nodes) (length f.spine + 1) c.0
@@ -130,8 +127,7 @@ state_before text r at start forest o low =
 tokens_after : (text : List ℕ) (old new : Forest Item) (start to : ℕ) (tokens : List Item) → IsOrderedBefore text old start → AreInOrder text start to tokens
     → to ≤ length text → new ≡ with_tokens old tokens → IsOrderedTo text new to
 tokens_after text old new start to tokens o h high is =
-    subst (λ f. IsOrderedTo text f to) (sym is)
-    (ordered_tokens text old o.from to tokens o.forest (order_from text o.from start to tokens h o.low) high o.order)
+    rw is (ordered_tokens text old o.from to tokens o.forest (order_from text o.from start to tokens h o.low) high o.order)
 
 -- the tokens of a line in a range of a text are added
 pub ordered_line : {texts : List CowStr} {after : MathBraces} (d : Document) (braces : MathBraces) (start : ℕ) (end : Option ℕ) (old new : Forest Item)

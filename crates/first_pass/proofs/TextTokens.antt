@@ -3,14 +3,10 @@ use Rattle.std.proofs.Common.{◌≡◌, ℕ, ◌+◌, ◌<◌, ◌≤◌, max, 
 use Rattle.std.proofs.Common.{subst, ◌∙◌, arith, option_map}
 use Rattle.first_pass_grammar.proofs.Common.{drop-append_seam, false≢true, Item, ItemBody, Paragraph, TaskListMarker, TreeIndex, Forest, appended, at_depth}
 use Rattle.first_pass_grammar.proofs.Common.{is_escaped, item_at, start_of, start_of-lines, AreInOrder, chained, leaves, chained-nodes, chained-spine}
-use Rattle.first_pass_grammar.proofs.Common.{EscapesStand, order_bound, Document, TextLines, marker_items, IsOrderedTo, extent_of, is_task_marker}
-use Rattle.first_pass_grammar.proofs.Common.{IsBetween}
-use Rattle.first_pass_open.specs.OpenBlock.{begun_item, with_child}
-use Rattle.first_pass_open.specs.Path.{path_of}
-use Rattle.first_pass_open.specs.Between.{MarkerBetween}
-use Rattle.first_pass_open.proofs.PathLemmas.{get_front}
+use Rattle.first_pass_grammar.proofs.Common.{EscapesStand, order_bound, Document, TextLines, marker_items, IsOrderedTo, extent_of, is_task_marker, IsBetween}
+use Rattle.first_pass_blocks.proofs.Common.{begun_item, path_of, MarkerBetween, get_front, ordered_appended, ordered_later}
+use Rattle.first_pass_open.specs.OpenBlock.{with_child}
 use Rattle.first_pass_text.proofs.OrderParagraph.{TextInOrder, text_is_in_order}
-use Rattle.first_pass_order.proofs.OrderLemmas.{ordered_appended, ordered_later}
 use Rattle.first_pass.specs.Holds.{AreTokens, HoldsText, HoldsTokens}
 
 -- a chain is added

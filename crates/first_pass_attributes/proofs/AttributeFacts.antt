@@ -1,9 +1,9 @@
 -- The effect of a word on attributes.
 use Rattle.std.proofs.Common.{◌≡◌, ℕ, Bool, true, false, cond, get_or, List, [], ◌∷◌, ◌++◌, map, filter, drop, Option, Some, refl, sym, ap, ◌∙◌}
-use Rattle.std.proofs.Common.{append_assoc, append-nil, ne_eqb}
+use Rattle.std.proofs.Common.{append_assoc, append-nil, ne_eqb, arith}
 use Rattle.first_pass_items.specs.Bytes.{number_sign, full_stop}
 use Rattle.first_pass_lines.specs.Lines.{begins}
-use Rattle.first_pass_attributes.specs.Attributes.{Attributes, attributes_in, attributes_of, no_attributes, is_attribute_word, words, gives_key}
+use Rattle.first_pass_attributes.specs.Attributes.{Attributes, attributes_in, attributes_of, no_attributes, is_attribute_word, words}
 use Rattle.first_pass_attributes.specs.Attributes.{key_and_value, last_or, with_words}
 use Rattle.first_pass_attributes.specs.declared.heading_attributes.HeadingAttributes.{HeadingAttributes}
 
@@ -30,11 +30,7 @@ all-more f false w ws ys = ap (λ zs. zs ++ map f ws) (sym (append-nil ys))
 -- the first of several words is added before the others
 with-first : (a : Attributes) (w : List ℕ) (ws : List (List ℕ)) → with_words a (w ∷ ws) ≡ with_words (with_words a (w ∷ [])) ws
 unfolding with_words
-with-first a w ws =
-    same_parts
-    (last-more (drop 1) (begins number_sign w) w (filter (begins number_sign) ws) a.id)
-    (all-more (drop 1) (begins full_stop w) w (filter (begins full_stop) ws) a.classes)
-    (all-more key_and_value (gives_key w) w (filter gives_key ws) a.attrs)
+with-first a w ws = grind (arith, same_parts, last-more, all-more)
 
 with-told : (a : Attributes) (t : Bool) (w : List ℕ) (ws : List (List ℕ))
     → with_words a (cond t (w ∷ ws) ws) ≡ with_words (with_words a (cond t (w ∷ []) [])) ws

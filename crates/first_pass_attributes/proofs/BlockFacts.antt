@@ -1,6 +1,6 @@
 -- The attribute block of a heading, by the parts of its bytes.
 use Rattle.std.proofs.Common.{◌≡◌, ℕ, suc, ◌+◌, ◌-◌, ◌<◌, ◌≤◌, Bool, true, false, List, [], ◌∷◌, ◌++◌, length, take, drop, slice_index_or, Option, Some}
-use Rattle.std.proofs.Common.{None, refl, sym, ap, ap₂, ◌∙◌, append_assoc, arith, eq-eqb, length-append, if◌then◌else◌, option_map, eqb-true, get_or-drop}
+use Rattle.std.proofs.Common.{None, sym, ap, ap₂, ◌∙◌, append_assoc, arith, length-append, if◌then◌else◌, option_map, eqb-true, get_or-drop}
 use Rattle.std.proofs.Common.{get_or-append-add, get_or-take, take-append-drop, length-take, length-drop}
 use mathlib.Core.List.{reverse}
 use Rattle.std.specs.List.{list_all, suffix_len}
@@ -67,10 +67,7 @@ left-at p xs x ys e h =
 
 -- bytes with one more at the end
 ends-with : (xs : List ℕ) (x : ℕ) → ends x (xs ++ x ∷ []) ≡ true
-ends-with xs x =
-    let short : length (xs ++ x ∷ []) ≡ length xs + 1 = length-append xs (x ∷ []) in
-    let at : slice_index_or (xs ++ x ∷ []) (length (xs ++ x ∷ []) - 1) 0 ≡ x = grind (arith, common_steps) in
-    ends-last x (xs ++ x ∷ []) (omega (arith, short)) ∙ eq-eqb _ x at
+ends-with xs x = grind (arith, common_steps, ends-last)
 
 front-length : (xs : List ℕ) (x : ℕ) → length (xs ++ x ∷ []) - 1 ≡ length xs
 front-length xs x = omega (arith, length-append xs (x ∷ []))
@@ -102,21 +99,12 @@ split-end bs x e =
 -- the bytes before a closing brace
 opening-at : (front inside : List ℕ) → list_all is_inside_block inside ≡ true → opening_brace (front ++ left_brace ∷ inside) ≡ Some (length front)
 unfolding opening_brace
-opening-at front inside h =
-    rw (left-at is_inside_block front left_brace inside refl h, ends-with front left_brace, front-length front left_brace)
+opening-at front inside h = grind (arith, left-at, ends-with, front-length)
 
 block-at : (front inside following : List ℕ) → list_all is_inside_block inside ≡ true → list_all is_after_block following ≡ true
     → attribute_block ((front ++ left_brace ∷ inside) ++ right_brace ∷ following) ≡ Some (braces (length front) (length (front ++ left_brace ∷ inside)))
 unfolding attribute_block
-block-at front inside following h g =
-    let before : List ℕ = front ++ left_brace ∷ inside in
-    rw (
-      left-at is_after_block before right_brace following refl g,
-      ends-with before right_brace,
-      front-bytes before right_brace,
-      front-length before right_brace,
-      opening-at front inside h,
-    )
+block-at front inside following h g = grind (arith, left-at, ends-with, front-bytes, front-length, opening-at)
 
 pub block-only : (heading : List ℕ) (block : Braces) → IsAttributeBlock heading block → attribute_block heading ≡ Some block
 block-only heading block is =
@@ -131,9 +119,7 @@ mapped-some : (t : Bool) (n : ℕ) (o : Option ℕ) (block : Braces) → (if t t
     → (o ≡ Some block.opening) × (block.closing ≡ n) × (t ≡ true)
 mapped-some false n o block e = absurd cc
 mapped-some true n None block e = absurd cc
-mapped-some true n (Some k) block e =
-    let same : braces k n ≡ block = cc in
-    (ap (λ b. Some b.opening) same, ap (λ b. b.closing) (sym same), refl)
+mapped-some true n (Some k) block e = grind arith
 
 opening-found : (bs : List ℕ) (k : ℕ) → opening_brace bs ≡ Some k
     → (front : List ℕ) × (inside : List ℕ) × (bs ≡ front ++ left_brace ∷ inside) × (list_all is_inside_block inside ≡ true) × (k ≡ length front)

@@ -1,6 +1,6 @@
 -- The last byte that breaks a block, found 16 bytes at a time.
 use Rattle.std.proofs.Common.{◌≡◌, ℕ, zero, suc, ◌+◌, ◌-◌, ◌%◌, ◌*◌, ◌^◌, ◌<◌, ◌≤◌, ◌==◌, true, List, length, take, get_or, inl, inr, sym, ap, subst, ◌∙◌}
-use Rattle.std.proofs.Common.{arith, pow_pos, take_all}
+use Rattle.std.proofs.Common.{arith, take_all}
 use Rattle.std.specs.Int.{bit_at}
 use Rattle.std.specs.List.{suffix_len}
 use Rattle.std.proofs.lemmas.Bool.{cases_lt}
@@ -15,8 +15,7 @@ one_is_odd n some few = omega arith
 
 -- the highest bit of a mask is set
 highest : (mask top : ℕ) → 2 ^ top ≤ mask → mask < 2 * 2 ^ top → bit_at mask top ≡ 1
-highest mask top from below =
-    one_is_odd _ (le-div 1 mask (2 ^ top) (pow_pos top) (omega (arith, from))) (div_below mask (2 ^ top) 2 (pow_pos top) below)
+highest mask top from below = grind (arith, one_is_odd, le-div, div_below)
 
 -- the highest bit of a mask of 16 bytes is one of 16
 pub top-low : (mask top : ℕ) → mask < 2 ^ 16 → 2 ^ top ≤ mask → mask < 2 * 2 ^ top → top < 16
@@ -59,10 +58,7 @@ module _ (bytes : List ℕ) (at mask : ℕ) (breaks : (k : ℕ) → k < 16 → i
 
 kept-on : (bytes : List ℕ) (at n : ℕ) → at + n ≤ length bytes → ((k : ℕ) → at ≤ k → k < at + n → is_inside_block (get_or bytes k 0) ≡ true)
     → suffix_len is_inside_block (take (at + n) bytes) ≡ n + suffix_len is_inside_block (take at bytes)
-kept-on bytes at zero room inside =
-    let same : at + 0 ≡ at = omega arith in
-    let as_long = ap (λ m. suffix_len is_inside_block (take m bytes)) same in
-    omega (arith, as_long)
+kept-on bytes at zero room inside = grind arith
 kept-on bytes at (suc n) room inside =
     let last : at + suc n - 1 ≡ at + n = omega arith in
     let passes = ap (λ i. is_inside_block (get_or bytes i 0)) last ∙ inside (at + n) (omega arith) (omega arith) in

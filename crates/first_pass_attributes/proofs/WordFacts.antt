@@ -1,5 +1,5 @@
 -- The first word of bytes, and where it ends.
-use Rattle.std.proofs.Common.{◌≡◌, ℕ, ◌+◌, ◌-◌, ◌<◌, ◌≤◌, not, Bool, true, false, cond, nat_lt, List, [], ◌∷◌, ◌++◌, length, filter, take, drop, get_or}
+use Rattle.std.proofs.Common.{◌≡◌, ℕ, ◌+◌, ◌-◌, ◌<◌, ◌≤◌, not, Bool, true, false, nat_lt, List, [], ◌∷◌, ◌++◌, length, filter, take, drop, get_or}
 use Rattle.std.proofs.Common.{IsUtf8, IsCharBoundary, inl, inr, refl, sym, ap, subst, ◌∙◌, arith, All, get_or-take, take-append-drop, take_all, length-take}
 use Rattle.std.proofs.Common.{length-take-le, length-drop}
 use Rattle.std.specs.List.{slice_split, prefix_len}
@@ -23,10 +23,7 @@ separator_is_ascii b h = grind (arith, nat_tests, h)
 told : (x : List ℕ) (parts : List (List ℕ)) → filter is_attribute_word (filter (λ part. nat_lt 0 (length part)) (x ∷ parts))
     ≡ filter is_attribute_word (x ∷ filter (λ part. nat_lt 0 (length part)) parts)
 told [] parts = refl
-told (b ∷ bs) parts =
-    let more : nat_lt 0 (length (b ∷ bs)) ≡ true = grind (arith, nat_tests) in
-    let rest : List (List ℕ) = filter (λ part. nat_lt 0 (length part)) parts in
-    ap (λ t. filter is_attribute_word (cond t ((b ∷ bs) ∷ rest) rest)) more
+told (b ∷ bs) parts = grind (arith, nat_tests)
 
 plain : (bs : List ℕ) (n : ℕ) → n ≡ prefix_len in_word bs → All (λ b. is_between_words b ≡ false) (take n bs)
 plain bs n e k d l =
@@ -56,15 +53,12 @@ split-last bs n e all =
 pub words-next : (bs : List ℕ) (n : ℕ) → n ≡ prefix_len in_word bs → n < length bs
     → filter is_attribute_word (words bs) ≡ filter is_attribute_word (take n bs ∷ words (drop (n + 1) bs))
 unfolding words
-words-next bs n e less =
-    ap (λ l. filter is_attribute_word (filter (λ part. nat_lt 0 (length part)) l)) (split-next bs n e less)
-    ∙ told (take n bs) (slice_split is_between_words (drop (n + 1) bs))
+words-next bs n e less = grind (arith, split-next, told)
 
 pub words-last : (bs : List ℕ) (n : ℕ) → n ≡ prefix_len in_word bs → n ≡ length bs
     → filter is_attribute_word (words bs) ≡ filter is_attribute_word (take n bs ∷ [])
 unfolding words
-words-last bs n e all =
-    ap (λ l. filter is_attribute_word (filter (λ part. nat_lt 0 (length part)) l)) (split-last bs n e all) ∙ told (take n bs) []
+words-last bs n e all = grind (arith, split-last, told)
 
 solid_in_word : (b : ℕ) → is_solid b ≡ true → in_word b ≡ true
 solid_in_word b h = grind (arith, nat_tests, h)

@@ -1,46 +1,32 @@
 -- A pass read a block, after its first line closed, continued and opened containers; and one block after another.
 use Rattle.std.proofs.Common.{◌≡◌, ℕ, ◌+◌, ◌<◌, ◌≤◌, Bool, false, List, Option, Some, None, length, drop, IsUtf8, IsCharBoundary, refl, sym, ap, subst, ◌∙◌}
 use Rattle.std.proofs.Common.{arith, ◌*◌}
-use Rattle.first_pass_grammar.proofs.Common.{Item, line_len, Place, offset, line_end, IsPlaceOf, line_end_boundary, document, AreNamed, Names, Extends}
-use Rattle.first_pass_grammar.proofs.Common.{GrowsBy, HasWholeTables, IsForest, Options, counted_nodes, lines_from}
-use Rattle.first_pass_names.specs.TableEntries.{tables_of, names_of}
-use Rattle.first_pass_names.specs.declared.items.Allocations.{Allocations}
-use Rattle.first_pass_names.proofs.NameLemmas.{extends_equal, extends_both, extends_none}
-use Rattle.first_pass_blocks.specs.Written.{TablesAreWritten}
-use Rattle.first_pass_open.specs.declared.source.Source.{Source}
-use Rattle.first_pass_lists.specs.declared.state.PassState.{PassState}
-use Rattle.first_pass_grammar.specs.declared.kind.AfterMarker.{AfterMarker}
-use Rattle.first_pass_grammar.specs.declared.kind.AfterMarker.TheVariants.{OnLine, TaskText, LineEnds, OnlyTag}
-use Rattle.first_pass_blocks.specs.declared.state.BlockPass.{BlockPass}
-use Rattle.first_pass_containers.specs.Positions.{Position, LineAt, InLine, LeafAt, TaskAt, TaggedAt, IsNotBefore, ReadyOn, GrowsTo, GrowsFrom, ReadsTo}
+use Rattle.first_pass_grammar.proofs.Common.{Item, line_len, Place, offset, line_end, line_end_boundary, document, AreNamed, Names, Extends, GrowsBy}
+use Rattle.first_pass_grammar.proofs.Common.{IsForest, Options, counted_nodes, lines_from, IsPlaceOf}
+use Rattle.first_pass_blocks.proofs.Common.{tables_of, names_of, Allocations, extends_equal, extends_both, extends_none, TablesAreWritten, Source, PassState}
+use Rattle.first_pass_blocks.proofs.Common.{AfterMarker, OnLine, TaskText, LineEnds, OnlyTag, Position, LineAt, InLine, LeafAt, IsNotBefore, ReadsTo}
+use Rattle.first_pass_blocks.proofs.Common.{StaysSame, ReadsLeaf, last_at, IsStateAtPlace, place_before_end, only_leaf, reads_none, allocs_of, front_of}
+use Rattle.first_pass_blocks.proofs.Common.{state_of, source_of, source_text, tree_of, source_options, IsReadFrom, Ready}
 use Rattle.first_pass_containers.specs.Entering.{EntersLine}
-use Rattle.first_pass_kinds.specs.declared.next_front.NextFront.{NextFront}
-use Rattle.first_pass_blocks.specs.OpenedFootnotes.{StaysSame}
-use Rattle.first_pass_blocks.specs.Progress.{IsAtPlace, KeepsPass, PassesTo, ReadsBlockOf, ReadsBlock, ReadsEntered, ReadsLeaf}
-use Rattle.first_pass_containers.specs.Starts.{last_at, BeginsNoContainer}
-use Rattle.first_pass_containers.proofs.OrderSteps.{IsStateAtPlace, line_later, place_before_end}
-use Rattle.first_pass_containers.proofs.Openings.Indented.{only_leaf}
-use Rattle.first_pass_containers.proofs.Openings.StartLemmas.{reads_none}
-use Rattle.first_pass_blocks.specs.Views.{allocs_of, front_of, state_of, source_of, source_text, tree_of, source_options}
-use Rattle.first_pass_order.specs.Ordered.{IsReadFrom}
-use Rattle.first_pass_ready.specs.State.{Ready}
+use Rattle.first_pass_blocks.specs.Progress.{ReadsBlock, IsAtPlace, KeepsPass, PassesTo, ReadsBlockOf, ReadsEntered}
+use Rattle.first_pass_containers.specs.Starts.{BeginsNoContainer}
+use Rattle.first_pass_blocks.specs.declared.state.BlockPass.{BlockPass}
+use Rattle.first_pass_containers.specs.Positions.{GrowsTo, GrowsFrom}
+use Rattle.first_pass_containers.proofs.OrderSteps.{line_later}
 
 -- a step of the state is a step of the pass
 pub passes_state : (over : Source) (line : ℕ) (old new : BlockPass) (p q : Position) → source_of new ≡ source_of old → allocs_of new ≡ allocs_of old
     → ReadsTo over line (state_of old) (state_of new) p q → PassesTo over line old new p q
 passes_state over line old new p q source same step =
-    let names = names_of (allocs_of old) in
     record {
       kept = record {
         source = source;
         names = extends_equal _ _ (ap names_of same);
-        named = λ h. subst (λ (z : Allocations). AreNamed (names_of z) (tree_of new).nodes) (sym same) (step.named names h);
-        written = λ h. subst (λ (z : Allocations). TablesAreWritten over.text.now z) (sym same) h;
-        tables = λ h k. subst (λ (z : Allocations). HasWholeTables (names_of z) (tree_of new)) (sym same) (step.tables names k);
+        named = λ h. rw same (step.named (names_of (allocs_of old)) h);
+        written = λ h. rw same h;
+        tables = λ h k. rw same (step.tables (names_of (allocs_of old)) k);
       };
-      ready = λ more extends ready.
-          subst (λ (z : Allocations). ReadyOn (document over.text.now over.options more) (tables_of z) (state_of new) q) (sym same)
-          (step.ready more (tables_of (allocs_of old)) ready);
+      ready = λ more extends ready. rw same (step.ready more (tables_of (allocs_of old)) ready);
       order = step.order;
       node_bound = step.node_bound;
     }
@@ -59,9 +45,9 @@ keeps_both over a b c one two = record {
 }
 
 -- one step after another
-pub passes_both : (over : Source) (line : ℕ) (a b c : BlockPass) (p q t : Position) → PassesTo over line a b p q → PassesTo over line b c q t
+pub passes_both : {over : Source} {line : ℕ} {a b c : BlockPass} {p q t : Position} → PassesTo over line a b p q → PassesTo over line b c q t
     → PassesTo over line a c p t
-passes_both over line a b c p q t one two = record {
+passes_both {over = over} {a = a} {b = b} {c = c} one two = record {
   kept = keeps_both over a b c one.kept two.kept;
   ready = λ more extends h. two.ready more extends
       (one.ready more (extends_both more (names_of (allocs_of c)) (names_of (allocs_of b)) extends two.kept.names) h);
@@ -69,49 +55,19 @@ passes_both over line a b c p q t one two = record {
   node_bound = λ first h. two.node_bound first (one.node_bound first h);
 }
 
--- a position is between two offsets
-abbrev pub IsBetween : ℕ → ℕ → Position → Type 0
-IsBetween low high (LineAt n) = (low ≤ n) × (n ≤ high)
-IsBetween low high (InLine p) = (low ≤ offset p) × (offset p ≤ high)
-IsBetween low high (LeafAt p) = (low ≤ offset p) × (offset p ≤ high)
-IsBetween low high (TaskAt p marker) = (low ≤ offset p) × (offset p ≤ high)
-IsBetween low high (TaggedAt n) = (low ≤ n) × (n ≤ high)
-
--- so is the position after a marker in a line that reading passes
-last_between : (start next : ℕ) (q : Place) (after : AfterMarker) → start ≤ offset q → line_end q ≤ next
-    → IsBetween start next (last_at q (line_end q) after)
-last_between start next q OnLine low high = let before = place_before_end q in (low, omega arith)
-last_between start next q (TaskText marker) low high = let before = place_before_end q in (low, omega arith)
-last_between start next q (LineEnds marker) low high = let before = place_before_end q in (omega arith, high)
-last_between start next q OnlyTag low high = let before = place_before_end q in (omega arith, high)
-
-grows_both : (text : List ℕ) (line next : ℕ) (a b c : List (ℕ × Item)) (at : Position)
-    → IsBetween line next at → GrowsTo text line a b at → GrowsFrom text at next b c → GrowsBy line next a c
-grows_both text line next a b c (LineAt n) w one two = omega arith
-grows_both text line next a b c (InLine p) w one two = omega arith
-grows_both text line next a b c (LeafAt p) w one two = omega arith
-grows_both text line next a b c (TaskAt p marker) w one two =
-    let low = one.order in
+-- the nodes grew by at most four for each byte of a line up to the position after a marker, and from there to a later offset
+last_grows : (text : List ℕ) (start next : ℕ) (a b c : List (ℕ × Item)) (q : Place) (after : AfterMarker) → start ≤ offset q → line_end q ≤ next
+    → GrowsTo text start a b (last_at q (line_end q) after) → GrowsFrom text (last_at q (line_end q) after) next b c → GrowsBy start next a c
+last_grows text start next a b c q OnLine low high one two = let before = place_before_end q in omega arith
+last_grows text start next a b c q (TaskText marker) low high one two =
+    let end = place_before_end q in
+    let order = one.order in
     let before = one.before in
     let first = one.grows in
     let more = two one.from one.stands (omega arith) in
     omega arith
-grows_both text line next a b c (TaggedAt n) w one two = omega arith
-
--- a block that begins at a position in the line or after it
-pub block_read : (over : Source) (old middle new : BlockPass) (start far next : ℕ) (at : Position)
-    → PassesTo over start old middle (LineAt start) at → ReadsBlockOf over middle new far at next
-    → IsBetween start next at → start < next → ReadsBlockOf over old new (1 + start) (LineAt start) next
-block_read over old middle new start far next at steps r between later = record {
-  kept = keeps_both over old middle new steps.kept r.kept;
-  later = omega arith;
-  boundary = r.boundary;
-  ready = λ more extends ready. r.ready more extends
-      (steps.ready more (extends_both more (names_of (allocs_of new)) (names_of (allocs_of middle)) extends r.kept.names) ready);
-  order = λ o. r.order (steps.order o);
-  node_bound = grows_both over.text.now start next (tree_of old).nodes (tree_of middle).nodes (tree_of new).nodes at between
-      (steps.node_bound (tree_of old).nodes (omega arith)) r.node_bound;
-}
+last_grows text start next a b c q (LineEnds marker) low high one two = let before = place_before_end q in omega arith
+last_grows text start next a b c q OnlyTag low high one two = let before = place_before_end q in omega arith
 
 -- the containers that begin at a place are open, and the block after the last marker is read
 pub entered_read : (old mid new : BlockPass) (p q : Place) (after : AfterMarker) (next : ℕ) → IsNotBefore (source_text old) p q
@@ -124,13 +80,21 @@ entered_read old mid new p q after next from opens read = λ first start within 
     let stop = line.2 in
     let low = from.2 in
     let far = from.3 in
-    let there = passes_both over start first old mid (LineAt start) (InLine p) at steps
-    (subst (λ (l : ℕ). PassesTo over l old mid (InLine p) at) on
+    let all = passes_both steps (subst (λ (l : ℕ). PassesTo over l old mid (InLine p) at) on
     (subst (λ (z : Source). PassesTo z p.line old mid (InLine p) at) steps.kept.source opens)) in
-    let r = subst (λ (z : Source). ReadsBlockOf z mid new (line_end q) at next) there.kept.source read in
+    let r = subst (λ (z : Source). ReadsBlockOf z mid new (line_end q) at next) all.kept.source read in
     let later = r.later in
-    block_read over first mid new start (line_end q) next at there r (last_between start next q after (omega (arith, on, low)) later)
-    (line_later over.text.now start _ next within refl (omega (arith, stop, far, later)) r.boundary).0
+    let beyond = (line_later over.text.now start _ next within refl (omega (arith, stop, far, later)) r.boundary).0 in
+    record {
+      kept = keeps_both over first mid new all.kept r.kept;
+      later = omega (arith, beyond);
+      boundary = r.boundary;
+      ready = λ more extends ready. r.ready more extends
+          (all.ready more (extends_both more (names_of (allocs_of new)) (names_of (allocs_of mid)) extends r.kept.names) ready);
+      order = λ o. r.order (all.order o);
+      node_bound = last_grows over.text.now start next (tree_of first).nodes (tree_of mid).nodes (tree_of new).nodes q after (omega (arith, on, low)) later
+          (all.node_bound (tree_of first).nodes (omega arith)) r.node_bound;
+    }
 
 -- the state of a pass at a place
 pub state_at : {pass : BlockPass} {p : Place} → IsAtPlace pass p → IsForest (tree_of pass) → IsStateAtPlace (source_text pass) (state_of pass) p
@@ -160,14 +124,12 @@ reached_start {pass = pass} {p = p} at = record {
 pub reached_still : {first p : Place} {old mid new : BlockPass} → ReachesPlace first old mid p → StaysSame mid new → ReachesPlace first old new p
 reached_still {first = first} {p = p} {old = old} {mid = mid} {new = new} r same =
     let over : Source = source_of old in
-    let kept = subst (λ (s : PassState). ReadsTo over first.line (state_of mid) s (InLine p) (InLine p)) (sym same.1)
-    (reads_none over first.line (state_of mid) (InLine p)) in
     record {
-      no_empty = ap (λ (s : PassState). s.begin_list_item) same.1 ∙ r.no_empty;
-      none = ap (λ (f : NextFront). f.is_known) same.3 ∙ r.none;
+      no_empty = rw same.1 r.no_empty;
+      none = rw same.3 r.none;
       here = r.here;
-      opened = passes_both over first.line old mid new (InLine first) (InLine p) (InLine p) r.opened
-          (passes_state over first.line mid new (InLine p) (InLine p) same.0 same.2 kept);
+      opened = passes_both r.opened
+          (passes_state over first.line mid new (InLine p) (InLine p) same.0 same.2 (rw same.1 (reads_none over first.line (state_of mid) (InLine p))));
     }
 
 -- a pass is the same as one that was made of its parts
@@ -178,8 +140,7 @@ same_parts pass = (refl, refl, refl, refl)
 pub leaf_reached : {first p : Place} {old mid new : BlockPass} {next : ℕ} → ReachesPlace first old mid p
     → ReadsTo (source_of old) first.line (state_of mid) (state_of mid) (InLine p) (LeafAt p) → ReadsLeaf mid new p next → ReadsEntered old new first next
 leaf_reached {first = first} {p = p} {old = old} {mid = mid} {new = new} {next = next} r leaf = entered_read old mid new first p OnLine next r.here
-    (passes_both (source_of old) first.line old mid mid (InLine first) (InLine p) (LeafAt p) r.opened
-    (passes_state (source_of old) first.line mid mid (InLine p) (LeafAt p) refl refl leaf))
+    (passes_both r.opened (passes_state (source_of old) first.line mid mid (InLine p) (LeafAt p) refl refl leaf))
 
 -- a pass entered the line at an offset: it is at a place in it, and the block there is the block of the line
 pub record IsEntered (old mid : BlockPass) (start : ℕ) (p : Place) : Type 0 where
@@ -234,8 +195,7 @@ line_passed old new start next u within begins source same next_is step =
     let boundary = subst (IsCharBoundary text) (sym next_is) (line_end_boundary text start u begins within) in
     let later = (line_later text start e next within refl (omega arith) boundary).0 in
     line_ended (source_of old) old new start (1 + start) next
-    (subst (λ (n : ℕ). PassesTo (source_of old) start old new (LineAt start) (LineAt n)) (sym next_is)
-    (passes_state (source_of old) start old new (LineAt start) (LineAt e) source same step)) boundary (omega arith) (omega arith)
+    (rw next_is (passes_state (source_of old) start old new (LineAt start) (LineAt e) source same step)) boundary (omega arith) (omega arith)
 
 -- ---- the lines of a text up to an offset are read, one block after another
 
@@ -265,16 +225,15 @@ read_on old new far ix next i e later = record {
 }
 
 -- one more block is read
-pub block_more : (text : List ℕ) (options : Options) (old new : BlockPass) (far ix next : ℕ) → IsReadUpTo text options old ix
+pub block_more : {text : List ℕ} {options : Options} {old new : BlockPass} {far ix next : ℕ} → IsReadUpTo text options old ix
     → ReadsBlock old new far (LineAt ix) next → ix ≤ next → IsReadUpTo text options new next
-block_more text options old new far ix next i e later =
+block_more {old = old} {new = new} {far = far} {ix = ix} {next = next} i e later =
     rw (← i.same_text, ← i.same_options) (read_on old new far ix next (rw (← i.same_text, ← i.same_options) at i) e later)
 
 -- lines are read that change nothing of the state
-pub lines_more : (text : List ℕ) (options : Options) (pass : BlockPass) (ix next : ℕ) → IsReadUpTo text options pass ix → ix ≤ next
+pub lines_more : {text : List ℕ} {options : Options} {pass : BlockPass} {ix next : ℕ} → IsReadUpTo text options pass ix → ix ≤ next
     → IsCharBoundary (source_text pass) next → ReadsTo (source_of pass) ix (state_of pass) (state_of pass) (LineAt ix) (LineAt next)
     → IsReadUpTo text options pass next
-lines_more text options pass ix next i later boundary e =
-    block_more text options pass pass ix ix next i
-    (line_ended (source_of pass) pass pass ix ix next
+lines_more {pass = pass} {ix = ix} {next = next} i later boundary e =
+    block_more i (line_ended (source_of pass) pass pass ix ix next
     (passes_state (source_of pass) ix pass pass (LineAt ix) (LineAt next) refl refl e) boundary later later) later

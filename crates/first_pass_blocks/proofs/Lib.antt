@@ -1,4 +1,5 @@
 pub mod BlockRead
+pub mod Common
 pub mod FootnoteOpened
 pub mod Leaves
 pub mod LinkDefinitions

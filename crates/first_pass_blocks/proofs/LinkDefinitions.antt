@@ -7,24 +7,17 @@ use Rattle.first_pass_grammar.proofs.Common.{lines_beyond, ends_run, Ended, Flow
 use Rattle.first_pass_grammar.proofs.Common.{footnote_at, label_bytes, cases_lt, drop_all, is_line_end, line_len, begins, Rest, Place, offset, line_rest}
 use Rattle.first_pass_grammar.proofs.Common.{IsPlaceOf, line_place, place_at, line_end, unescaped, all_taken, is_blank_rest, unindented}
 use Rattle.first_pass_grammar.proofs.Common.{is_ordinary_after_tag, left_bracket, line_len-within, lines_at-line, lines_at-end, LinkEntry, lines_from}
+use Rattle.first_pass_blocks.proofs.Common.{Allocations, tables_of, link_entry, IsReference, TablesAreWritten, context_in, source_text, tree_of, told_none}
+use Rattle.first_pass_blocks.proofs.Common.{line_stops, PutsDefinitions, ReadsRun, IsLater, text_place, Container, Source, PassState, context_of}
+use Rattle.first_pass_blocks.proofs.Common.{source_of, state_of}
 use Rattle.first_pass_grammar.specs.LinkRuns.{reference_places, entry_of}
-use Rattle.first_pass_names.specs.declared.items.Allocations.{Allocations}
-use Rattle.first_pass_names.specs.TableEntries.{Entries, entries, with_definition, AddsFootnote, tables_of, link_entry, footnote_label, refdefs_of}
-use Rattle.first_pass_names.specs.TableEntries.{footdefs_of}
+use Rattle.first_pass_names.specs.TableEntries.{Entries, entries, with_definition, AddsFootnote, footnote_label, refdefs_of, footdefs_of}
 use Rattle.first_pass_names.proofs.LinkLemmas.{each_first}
-use Rattle.first_pass_definitions.specs.Found.{IsReference, BorrowsLabel, HasParts, IsWritten, AreWritten, HasTitle}
-use Rattle.first_pass_blocks.specs.Written.{IsFootnoteWritten, AreFootnotesWritten, TablesAreWritten}
+use Rattle.first_pass_definitions.specs.Found.{BorrowsLabel, HasParts, IsWritten, AreWritten, HasTitle}
+use Rattle.first_pass_blocks.specs.Written.{IsFootnoteWritten, AreFootnotesWritten}
 use Rattle.first_pass_blocks.specs.declared.state.BlockPass.{BlockPass}
-use Rattle.first_pass_blocks.specs.Views.{context_in, source_text, tree_of, source_of, state_of}
 use Rattle.first_pass_definitions.proofs.ReferenceFacts.{reference_last}
-use Rattle.first_pass_containers.proofs.Leaves.LeafLemmas.{tag_end, told_none}
-use Rattle.first_pass_text.proofs.OrderHeading.{line_stops}
-use Rattle.first_pass_blocks.specs.Runs.{PutsDefinitions, ReadsRun, IsLater}
-use Rattle.first_pass_open.specs.declared.source.Source.{Source}
-use Rattle.first_pass_lists.specs.declared.state.PassState.{PassState}
-use Rattle.first_pass_open.specs.Path.{context_of}
-use Rattle.first_pass_open.proofs.PlaceLemmas.{text_place}
-use Rattle.first_pass_grammar.specs.declared.kind.Container.{Container}
+use Rattle.first_pass_containers.proofs.Leaves.LeafLemmas.{tag_end}
 use Rattle.first_pass_completion.proofs.Extending.{told-append}
 use Rattle.first_pass_definitions.proofs.Targets.{no_bracket}
 use Rattle.first_pass_blocks.specs.declared.definition.RunEnd.TheVariants.{NextLine, Paragraph}
@@ -45,9 +38,9 @@ pub record RunSoFar (text : List ℕ) (around : Context) (nested : Bool) (p q : 
 pub puts_none : (pass : BlockPass) → PutsDefinitions pass pass
 puts_none pass = record { source = refl; front = refl; state = refl; names = refl; written = λ h. h }
 
-pub run_begun : (text : List ℕ) (around : Context) (nested : Bool) (p : Place) (tables : Tables)
+pub run_begun : {text : List ℕ} {around : Context} {nested : Bool} {p : Place} {tables : Tables}
     → IsPlaceOf text p → RunSoFar text around nested p p tables tables
-run_begun text around nested p tables i = record {
+run_begun {tables = tables} i = record {
   stands = i;
   later = inl (refl, omega arith);
   ends = omega arith;
@@ -93,7 +86,7 @@ stops_at around bs = is_ordinary_after_tag around (line_rest bs) || is_blank_res
 abbrev pub rest_at : Context → List ℕ → Rest
 rest_at around bs = all_taken (front around.path (line_rest bs))
 
-module _ (text : List ℕ) (around : Context) (nested : Bool) (p : Place) (next : ℕ) (before now : Tables)
+module _ {text : List ℕ} {around : Context} {nested : Bool} {p : Place} {next : ℕ} {before now : Tables}
     (w : RunWithOne text around nested p next before now) where
   -- the tables with one more definition
   told_more : nested ≡ false → now ≡ with_definitions before (w.so_far.definitions ++ w.entry ∷ [])
@@ -168,11 +161,11 @@ module _ (text : List ℕ) (around : Context) (nested : Bool) (p : Place) (next 
       }
 
 -- No more definitions: the text of a paragraph begins there.
-pub run_flows : (text : List ℕ) (around : Context) (nested : Bool) (p q : Place) (at : ℕ) (before now : Tables)
+pub run_flows : {text : List ℕ} {around : Context} {nested : Bool} {p q : Place} {at : ℕ} {before now : Tables}
     → at ≡ offset q → (nested ≡ false → link_definition_at around q ≡ None)
     → RunSoFar text around nested p q before now → ReadsRun text around nested p before now (Paragraph at)
 unfolding IsRun
-run_flows text around nested p q at before now here none r = record {
+run_flows {text = text} {around = around} {p = p} {q = q} here none r = record {
   place = q;
   stands = r.stands;
   later = r.later;
@@ -188,24 +181,23 @@ run_flows text around nested p q at before now here none r = record {
 pub run_is_empty : (text : List ℕ) (around : Context) (nested : Bool) (p : Place) (at : ℕ) (tables : Tables) → IsPlaceOf text p → at ≡ offset p
     → begins left_bracket (drop at text) ≡ false → ReadsRun text around nested p tables tables (Paragraph at)
 run_is_empty text around nested p at tables i is other =
-    run_flows text around nested p p at tables tables is
+    run_flows is
     (λ plain. defined_none text around p i
     (ap (λ (n : ℕ). reference_definition_at false around (drop n text)) (sym is) ∙ no_bracket false around (drop at text) other))
-    (run_begun text around nested p tables i)
+    (run_begun i)
 
 -- ---- a link reference definition that is found is one more in its run, and is written in the text
 
 -- what was found is there, and nothing is there if nothing was found
-pub found_by : {A : Type 0} (o : Option LinkReference) (answer : Option A) (found : A) (P : LinkReference → A → Type 0)
-    → MatchOption o (answer ≡ None) (λ x. IsSomeAnd answer (P x)) → answer ≡ Some found
-    → (x : LinkReference) × (o ≡ Some x) × P x found
-found_by {A} None answer found P h is = (let z : Some found ≡ None = sym is ∙ h in cc)
-found_by {A} (Some x) answer found P h is = (x, refl, subst (λ z. IsSomeAnd z (P x)) is h)
+pub found_by : {A B : Type 0} (o : Option B) (answer : Option A) (found : A) (N : Type 0) (P : B → A → Type 0)
+    → MatchOption o N (λ x. IsSomeAnd answer (P x)) → (N → answer ≡ None) → answer ≡ Some found → (x : B) × (o ≡ Some x) × P x found
+found_by {A} {B} None answer found N P h none is = (let z : Some found ≡ None = sym is ∙ none h in cc)
+found_by {A} {B} (Some x) answer found N P h none is = (x, refl, subst (λ z. IsSomeAnd z (P x)) is h)
 
-pub none_by : {A : Type 0} (o : Option LinkReference) (answer : Option A) (P : LinkReference → A → Type 0)
-    → MatchOption o (answer ≡ None) (λ x. IsSomeAnd answer (P x)) → answer ≡ None → o ≡ None
-none_by {A} None answer P h is = refl
-none_by {A} (Some x) answer P h is = absurd (subst (λ z. IsSomeAnd z (P x)) is h)
+pub none_by : {A B : Type 0} (o : Option B) (answer : Option A) (N : Type 0) (P : B → A → Type 0) → MatchOption o N (λ x. IsSomeAnd answer (P x))
+    → answer ≡ None → (o ≡ None) × N
+none_by {A} {B} None answer N P h is = (refl, h)
+none_by {A} {B} (Some x) answer N P h is = absurd (subst (λ z. IsSomeAnd z (P x)) is h)
 
 -- a definition as an entry of the table
 title_is : (t : Option (List ℕ)) (f : Option CowStr) → HasTitle false t f → option_map text_of f ≡ option_map (unescaped false) t
@@ -216,13 +208,8 @@ title_is (Some t) (Some f) h = ap (λ z. Some z) h.value
 
 entry_is : (at : ℕ) (x : LinkReference) (found : ℕ × CowStr × LinkDef) → IsReference false at x found → link_entry (found.1, found.2) ≡ entry_of at x
 entry_is at x found h =
-    let d = h.definition in
-    let label = h.label in
-    let dest = d.dest.value in
-    let title = title_is x.target.title found.2.title d.title in
-    let start = d.start_is in
-    let stop = d.end_is in
-    let places = d.places_are in
+    let dest = h.definition.dest.value in
+    let title = title_is x.target.title found.2.title h.definition.title in
     cc
 
 -- A link reference definition is at an offset. This is its length, which is not 0, and its entry, and it ends at a character
@@ -235,10 +222,10 @@ pub record ReferenceFound (text : List ℕ) (around : Context) (nested : Bool) (
   pub boundary : IsCharBoundary text (at + found.0)
 
 -- The definition that was found is one more.
-pub one_more : (text : List ℕ) (around : Context) (nested : Bool) (q : Place) (at : ℕ) (found : ℕ × CowStr × LinkDef) (next : ℕ)
+pub one_more : {text : List ℕ} {around : Context} {nested : Bool} {q : Place} {at : ℕ} {found : ℕ × CowStr × LinkDef} {next : ℕ}
     → IsUtf8 text → IsPlaceOf text q → offset q ≡ at → ReferenceFound text around nested at found
     → next ≡ at + found.0 + line_len (drop (at + found.0) text) → IsOneMore text around nested q (link_entry (found.1, found.2)) next
-one_more text around nested q at found next u i there f next_is =
+one_more {text = text} {around = around} {nested = nested} {q = q} {at = at} {found = found} u i there f next_is =
     let x : LinkReference = f.reference in
     let some = f.some in
     let ends = reference_last nested around (drop at text) x f.here in
@@ -252,12 +239,9 @@ one_more text around nested q at found next u i there f next_is =
       next_is = next_is;
       boundary = subst (IsCharBoundary text) (sym next_is) (line_stops text (at + found.0) u f.boundary);
       here = λ plain.
-          (let nothing : reference_definition_at false around (drop at text) ≡ Some x =
-          subst (λ z. reference_definition_at z around (drop at text) ≡ Some x) plain f.here in
-          ap (option_map (entry_of (offset q)))
-          (ap (reference_definition_at false around) i.left ∙ ap (λ n. reference_definition_at false around (drop n text)) there ∙ nothing)
-          ∙ ap (λ n. Some (entry_of n x)) there
-          ∙ ap (λ z. Some z) (sym (entry_is at x found (subst (λ z. IsReference z at x found) plain f.says))));
+          ap (option_map (entry_of (offset q))) (ap (reference_definition_at false around) i.left
+          ∙ ap (λ n. reference_definition_at false around (drop n text)) there ∙ (rw plain at f.here))
+          ∙ ap (λ n. Some (entry_of n x)) there ∙ ap (λ z. Some z) (sym (entry_is at x found (rw plain at f.says)));
       ends = f.says.definition.end_is ∙ ap (λ n. at + n) (sym size);
     }
 
@@ -281,7 +265,8 @@ pub found_here : (first now : BlockPass) (at : ℕ) (answer : Option (ℕ × Cow
     → PutsDefinitions first now → Answers now at answer → IfSome answer (λ f. (0 < f.0) × IsCharBoundary (source_text now) (at + f.0))
     → answer ≡ Some found → ReferenceFound (source_text first) (context_in first) (in_table (tree_of first).nodes (tree_of first).spine) at found
 found_here first now at answer found kept said fits is =
-    let w = found_by _ answer found (IsReference (in_table (tree_of first).nodes (tree_of first).spine) at) (same_answers first now at answer kept said) is in
+    let w = found_by _ answer found (answer ≡ None) (IsReference (in_table (tree_of first).nodes (tree_of first).spine) at)
+    (same_answers first now at answer kept said) (λ none. none) is in
     let ends = rw is at fits in
     record {
       reference = w.0;
@@ -373,7 +358,7 @@ written_here pass at answer found said borrowed parts is =
     let text = source_text pass in
     let around = context_in pass in
     let nested = in_table (tree_of pass).nodes (tree_of pass).spine in
-    let (x, here, h) = found_by _ answer found (IsReference nested at) said is in
+    let (x, here, h) = found_by _ answer found (answer ≡ None) (IsReference nested at) said (λ none. none) is in
     let d = h.definition in
     let back = sym d.start_is in
     record {

@@ -1,13 +1,13 @@
 -- Lists that are closed before a block that ends them.
 use Rattle.std.proofs.Common.{◌≡◌, ℕ, suc, Bool, true, false, ◌==◌, List, ◌∷◌, length, Option, Some, None, refl, sym, ap, ◌∙◌, if◌then◌else◌, subst}
-use Rattle.std.proofs.Common.{true≢false}
+use Rattle.std.proofs.Common.{true≢false, arith}
 use Rattle.first_pass_grammar.proofs.Common.{option_map_or, or-false, Place, in_quote, Document, LeafBlock, BlankLine, Block, Head, Opener, QuoteMarker}
 use Rattle.first_pass_grammar.proofs.Common.{ItemMarker, DefinitionMarker, Skeleton, Nil, Then, Node, LastOther, LastParagraph, LastDefinition, Before}
-use Rattle.first_pass_grammar.proofs.Common.{begins_paragraph, after_block, Continues, Inside, Opening, OpensLeaf, OpensNode, Opens, level, Kind, ALeaf}
-use Rattle.first_pass_grammar.proofs.Common.{Joins, ItemsOf, DefinitionsTo, Rows, End, OneOf, Definitions, any_gap, is_loose, is_paragraph, list_until}
-use Rattle.first_pass_grammar.proofs.Common.{items_after, list_after, what_of, row_of, row_of_leaf, titled, gap_before, container_row, rows_of}
-use Rattle.first_pass_grammar.proofs.Common.{definitions_first, items_of, OtherClosed, ParagraphAt, DefinitionClosed, TitleAt, Pending, NoList, OneList}
-use Rattle.first_pass_grammar.proofs.Common.{OneTitle, rows_beyond, rendered, InList, InDefinitions, containers_of, IsPlain}
+use Rattle.first_pass_grammar.proofs.Common.{begins_paragraph, after_block, Continues, Inside, Opening, OpensLeaf, OpensNode, Opens, level, ALeaf, Joins}
+use Rattle.first_pass_grammar.proofs.Common.{ItemsOf, DefinitionsTo, Rows, End, OneOf, Definitions, any_gap, is_loose, is_paragraph, list_until, items_after}
+use Rattle.first_pass_grammar.proofs.Common.{list_after, what_of, row_of, row_of_leaf, titled, gap_before, container_row, rows_of, definitions_first}
+use Rattle.first_pass_grammar.proofs.Common.{items_of, OtherClosed, ParagraphAt, DefinitionClosed, TitleAt, Pending, NoList, OneList, OneTitle, rows_beyond}
+use Rattle.first_pass_grammar.proofs.Common.{rendered, InList, InDefinitions, containers_of, IsPlain}
 use Rattle.first_pass_grammar.specs.declared.kind.Container.{Container}
 use Rattle.first_pass_grammar.specs.Rows.{closing_place}
 use Rattle.first_pass_grammar.proofs.Uniqueness.Alike.{only_opener, only_head, AlikeOpening}
@@ -15,8 +15,7 @@ use Rattle.first_pass_completion.proofs.Extending.{stepped, tail, lvl, stands_af
 use Rattle.first_pass_grammar.proofs.Sequences.Finishes.{Finish, Tail}
 use Rattle.first_pass_completion.proofs.FlatBlocks.{OwnParagraph}
 use Rattle.first_pass_completion.proofs.Moved.{is_definition, opens_definition, OpensAlike, takes_alike, other_alike, SameAfter, seq_moved, SameFirst}
-use Rattle.first_pass_completion.proofs.Moved.{same_after, rows_moved, counts_moved, Known, FirstHas, known_first, OpensBlock, FirstIsOther}
-use Rattle.first_pass_completion.proofs.Moved.{first_is_other}
+use Rattle.first_pass_completion.proofs.Moved.{same_after, rows_moved, counts_moved, Known, FirstHas, known_first, OpensBlock, FirstIsOther, first_is_other}
 use Rattle.first_pass_completion.proofs.PoppedLists.{last_in, closed_below, title_below, list_popped, title_popped}
 use Rattle.first_pass_grammar.proofs.Uniqueness.RowsAlike.{begins_alike}
 use Rattle.first_pass_completion.proofs.Titles.{BeginsOther, title_stays, titled_by}
@@ -71,25 +70,18 @@ only_joins list o = refl
 
 leaf_away : (d : Document) (list : Joins) (at : ℕ) (b b' : LeafBlock) (there there' : Continues) (left left' : List Place)
     → AlikeOpening d.names d.names (OpensLeaf (Block b) there left) (OpensLeaf (Block b') there' left') → LeafAway list at b → LeafAway list at b'
-leaf_away d (ItemsOf byte) at b b' there there' left left' a away =
-    sym (ap (λ (z : Kind × ℕ × ℕ). if is_paragraph z.0 then z.2 else z.1) a.0.0) ∙ away
-leaf_away d (DefinitionsTo e) at b b' there there' left left' a away = (
-  sym (begins_alike d.names d.names b.items b'.items a.0.1) ∙ away.0,
-  sym (ap (λ (z : Kind × ℕ × ℕ). if is_paragraph z.0 then e else (if is_paragraph z.0 then z.2 else z.1)) a.0.0) ∙ away.1,
-)
+leaf_away d (ItemsOf byte) at b b' there there' left left' a away = grind arith
+leaf_away d (DefinitionsTo e) at b b' there there' left left' a away = grind (arith, begins_alike)
 
 ends_list : (d : Document) (list : Joins) (at : ℕ) (o : Opening) (s : Skeleton) → OpensAway list at o → FirstHas (Known d o) s → EndsList list at s
 ends_list d list at o Nil away known = known
 ends_list d list at (OpensLeaf BlankLine there left) (Then leaf next) away known = absurd away
 ends_list d list at (OpensLeaf (Block b) there left) (Then BlankLine next) away (there', left', (alike, flat)) = absurd alike.0
-ends_list d list at (OpensLeaf (Block b) there left) (Then (Block b') next) away (there', left', (alike, flat)) =
-    (leaf_away d list at b b' there there' left left' alike away, flat.1)
+ends_list d list at (OpensLeaf (Block b) there left) (Then (Block b') next) away (there', left', (alike, flat)) = grind (arith, leaf_away)
 ends_list d list at (OpensLeaf leaf there left) (Node head' e' kids' next') away (inside', following', (alike, flat)) = absurd alike
 ends_list d list at (OpensNode head inside following) (Then leaf' next') away (there', left', (alike, flat)) = absurd alike
-ends_list d list at (OpensNode head inside following) (Node head' e' kids' next') away (inside', following', (alike, flat)) = (
-  sym (sym (only_closes head.opener head.line head.start) ∙ ap head_closes alike.0.0 ∙ only_closes head'.opener head'.line head'.start) ∙ away.0,
-  sym (sym (only_joins list head.opener) ∙ ap (λ (h : Head). joins list h.opener) alike.0.0 ∙ only_joins list head'.opener) ∙ away.1,
-)
+ends_list d list at (OpensNode head inside following) (Node head' e' kids' next') away (inside', following', (alike, flat)) =
+    grind (arith, only_closes, only_joins)
 
 -- The rows of what ends a list include none that continues it.
 pub record AreAway (list : Joins) (at last : ℕ) (rows : Rows) : Type 0 where
@@ -100,8 +92,7 @@ pub record AreAway (list : Joins) (at last : ℕ) (rows : Rows) : Type 0 where
 container_away : (list : Joins) (at last : ℕ) (opener : Opener) (line start e : ℕ) (gap : Bool) (inner next : Rows)
     → (let head : Head = record { opener = opener; line = line; start = start } in
     head_closes head ≡ at → joins list opener ≡ false → AreAway list at last (container_row last opener (row_of head e gap) inner next))
-container_away (ItemsOf byte) at last (ItemMarker list number columns) line start e gap inner next closes other =
-    record { none = rw other refl; until = rw other closes; past = rw other refl }
+container_away (ItemsOf byte) at last (ItemMarker list number columns) line start e gap inner next closes other = search
 container_away (DefinitionsTo x) at last (DefinitionMarker columns) line start e gap inner next closes other = absurd (true≢false other)
 container_away list at last o line start e gap inner next closes other = record { none = refl; until = closes; past = refl }
 
@@ -113,8 +104,7 @@ start_by false line start is = absurd (true≢false (sym is))
 paragraph_away : (byte at last : ℕ) (b : LeafBlock) (gap : Bool) (next : Rows) (o : Option Definitions) → is_paragraph b.kind ≡ true → leaf_closes b ≡ at
     → AreAway (ItemsOf byte) at last (option_map_or (titled b gap) o (OneOf (row_of_leaf b gap) End next))
 paragraph_away byte at last b gap next None is closes = record { none = refl; until = closes; past = refl }
-paragraph_away byte at last b gap next (Some ds) is closes =
-    record { none = refl; until = start_by (is_paragraph b.kind) b.line b.start is ∙ closes; past = refl }
+paragraph_away byte at last b gap next (Some ds) is closes = search start_by
 
 leaf_by : (list : Joins) (at last : ℕ) (b : LeafBlock) (gap : Bool) (next : Rows) (t : Bool) → begins_paragraph b.items ≡ t
     → LeafAway list at b → OwnParagraph b
@@ -127,10 +117,8 @@ leaf_by (DefinitionsTo e) at last b gap next false is away own = record { none =
 rows_away : (quoted : Bool) (list : Joins) (at last : ℕ) (before : Before) (s : Skeleton) → EndsList list at s
     → AreAway list at last (rows_of quoted before last s)
 unfolding rows_of
-rows_away quoted list at last before (Then (Block b) next) u =
-    leaf_by list at last b (gap_before before b) (rows_of quoted (after_block before b) last next) (begins_paragraph b.items) refl u.0 u.1
-rows_away quoted list at last before (Node head e kids next) u =
-    container_away list at last head.opener head.line head.start e before.counted _ _ u.0 u.1
+rows_away quoted list at last before (Then (Block b) next) u = grind (arith, leaf_by)
+rows_away quoted list at last before (Node head e kids next) u = grind (arith, container_away)
 rows_away quoted list at last before s u = absurd u
 
 -- a leaf block that does not begin with a paragraph is the same after a definition as after another block

@@ -1,27 +1,25 @@
 -- Each step of reading a text, in terms of what the nodes so far can still become.
-use Rattle.std.proofs.Common.{◌≡◌, ℕ, suc, ◌+◌, ◌<◌, Bool, true, false, not, ◌||◌, List, [], ◌∷◌, ◌++◌, length, Option, Some, None, refl, sym, ap, ◌∙◌}
-use Rattle.std.proofs.Common.{subst, arith, length-append, if◌then◌else◌, append-nil, is_some}
-use Rattle.first_pass_grammar.proofs.Common.{or-true, Item, Place, offset, lines_at, taken, is_quote, in_quote, footnote_head_at, Document, around}
-use Rattle.first_pass_grammar.proofs.Common.{LeafBlock, BlankLine, Block, block_at, Nil, Then, Skeleton, LastOther, LastParagraph, Before, list_is_open}
-use Rattle.first_pass_grammar.proofs.Common.{after_blank, after_block, is_paragraph_body, begins_paragraph, is_run, before_end, Continues, Line, Inside}
-use Rattle.first_pass_grammar.proofs.Common.{Blanks, AtPlace, TextOf, OnlyMark, after_marker, Opening, OpensLeaf, OpensText, Opens, level, Remaining}
-use Rattle.first_pass_grammar.proofs.Common.{InLine, Ends, ends_old_footnote, next_block, onward, after_first, end_of_left, end_before, IsFirst, IsSequence}
-use Rattle.first_pass_grammar.proofs.Common.{unindented, is_blank_rest, ItemsOf, any_gap, rows_of, End, definitions_first, with_links, with_labels, Tables}
-use Rattle.first_pass_grammar.proofs.Common.{Derives, no_tables, with_definitions, definitions_of, footnotes_of, root_of, block_items, items_of, ended}
-use Rattle.first_pass_grammar.proofs.Common.{Closed, OtherClosed, ParagraphAt, Pending, NoList, OneList, rendered, Frame, InContainer, InList}
-use Rattle.first_pass_grammar.proofs.Common.{InDefinitions, closed_as, definitions_open, containers_of, loosened, IsPlain, last_plain, StandsIn, last_of}
-use Rattle.first_pass_grammar.proofs.Common.{IsShaped}
+use Rattle.std.proofs.Common.{◌≡◌, ℕ, suc, ◌+◌, ◌<◌, Bool, true, false, not, ◌||◌, List, [], ◌∷◌, ◌++◌, length, Option, Some, None, refl, sym, ap, ◌∙◌, subst}
+use Rattle.std.proofs.Common.{arith, length-append, if◌then◌else◌, append-nil, is_some}
+use Rattle.first_pass_grammar.proofs.Common.{or-true, Item, Place, offset, lines_at, taken, is_quote, in_quote, footnote_head_at, Document, around, LeafBlock}
+use Rattle.first_pass_grammar.proofs.Common.{BlankLine, Block, block_at, Nil, Then, Skeleton, LastOther, LastParagraph, Before, list_is_open, after_blank}
+use Rattle.first_pass_grammar.proofs.Common.{after_block, is_paragraph_body, begins_paragraph, is_run, before_end, Continues, Line, Inside, Blanks, AtPlace}
+use Rattle.first_pass_grammar.proofs.Common.{TextOf, OnlyMark, after_marker, Opening, OpensLeaf, OpensText, Opens, level, Remaining, InLine, Ends}
+use Rattle.first_pass_grammar.proofs.Common.{ends_old_footnote, next_block, onward, after_first, end_of_left, end_before, IsFirst, IsSequence, unindented}
+use Rattle.first_pass_grammar.proofs.Common.{is_blank_rest, ItemsOf, any_gap, rows_of, End, definitions_first, with_links, with_labels, Tables, Derives}
+use Rattle.first_pass_grammar.proofs.Common.{no_tables, with_definitions, definitions_of, footnotes_of, root_of, block_items, items_of, ended, Closed}
+use Rattle.first_pass_grammar.proofs.Common.{OtherClosed, ParagraphAt, Pending, NoList, OneList, rendered, Frame, InContainer, InList, InDefinitions}
+use Rattle.first_pass_grammar.proofs.Common.{closed_as, definitions_open, containers_of, loosened, IsPlain, last_plain, StandsIn, last_of, IsShaped}
 use Rattle.first_pass_grammar.specs.declared.kind.Container.{Container}
 use Rattle.first_pass_grammar.specs.declared.kind.Container.TheVariants.{BlockQuote, ListItem, FootnoteDefinition, Definition}
-use Rattle.first_pass_grammar.specs.Before.{last_container}
-use Rattle.first_pass_grammar.specs.Before.{last_after_run, last_block}
+use Rattle.first_pass_grammar.specs.Before.{last_container, last_after_run, last_block}
 use Rattle.first_pass_grammar.specs.Kinds.{Paragraph}
 use Rattle.first_pass_grammar.proofs.Sequences.Finishes.{Finish, Tail, before_of, CompletesAt, finish_derives, completes_by}
 use Rattle.first_pass_grammar.proofs.Sequences.Goings.{ends_inside, begins_blank}
 use Rattle.first_pass_completion.proofs.FlatBlocks.{OwnFrom, opened_own}
 use Rattle.first_pass_completion.proofs.Titles.{closed_after, beside_all, leaf_added}
-use Rattle.first_pass_completion.proofs.Extending.{stepped, tail, lvl, finish_moved, AreBelow-more, length-ended, loosened-false, plain_last}
-use Rattle.first_pass_completion.proofs.Extending.{stands_after, EndsAlike, told_leaf, enter_step, opens_stays, first_here, extend_same}
+use Rattle.first_pass_completion.proofs.Extending.{stepped, tail, lvl, finish_moved, AreBelow-more, length-ended, loosened-false, plain_last, stands_after}
+use Rattle.first_pass_completion.proofs.Extending.{EndsAlike, told_leaf, enter_step, opens_stays, first_here, extend_same}
 use Rattle.first_pass_completion.proofs.States.{CompletesFrom, IsCompleted, IsStep, OpenNodes, Reading, open_nodes, reading, reading_at, with_inner}
 
 -- no last child, and no blank lines
@@ -44,9 +42,7 @@ plain_block closed b = refl
 
 leaf_last : (place : ℕ) (closed : Closed) (frames : List Frame) (b : LeafBlock) → IsPlain frames
     → last_of frames (closed_after place b closed) ≡ last_block b (last_of frames closed)
-leaf_last place closed frames b plain =
-    rw (plain_last (closed_after place b closed) frames plain, plain_last closed frames plain)
-    (last_by place closed (begins_paragraph b.items) (is_run b.kind) ∙ sym (plain_block closed b))
+leaf_last place closed frames b plain = grind (arith, plain_last, closed_after, last_by, plain_block)
 
 -- the open nodes after a leaf block
 abbrev pub with_leaf : OpenNodes → LeafBlock → OpenNodes
@@ -174,8 +170,7 @@ blank_any d defined (InList byte loose ∷ frames) t nodes (o ∷ os) from lines
 blank_any d defined (InDefinitions loose ∷ frames) t nodes (o ∷ os) from lines left shape alike first =
     blank_step d (open_nodes defined frames nodes os) (definitions_open o loose (NoList t.closed)) (before_of (InDefinitions loose ∷ frames) t)
     from lines left shape.0 alike first
-blank_any d defined frames t nodes os from lines left shape alike first =
-    blank_step d (open_nodes defined frames nodes os) (NoList t.closed) (before_of frames t) from lines left tt alike first
+blank_any d defined frames t nodes os from lines left shape alike first = search blank_step
 
 -- after a blank line, wherever it begins
 pub completes-blank : (d : Document) (defined : Tables) (t : Tail) (frames : List Frame) (nodes : List (ℕ × Item)) (os : List ℕ) (from : Continues)

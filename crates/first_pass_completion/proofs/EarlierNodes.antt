@@ -1,6 +1,5 @@
 -- A node before the last child may be changed before or after the following rows are rendered.
-use Rattle.std.proofs.Common.{◌≡◌, ℕ, zero, suc, ◌<◌, ◌≤◌, Bool, true, false, not, List, [], ◌∷◌, ◌++◌, length, Option, Some, None, refl, sym, ap, ◌∙◌}
-use Rattle.std.proofs.Common.{arith}
+use Rattle.std.proofs.Common.{◌≡◌, ℕ, zero, suc, ◌<◌, ◌≤◌, Bool, true, false, not, List, [], ◌∷◌, ◌++◌, length, Option, Some, None, refl, sym, ap, ◌∙◌, arith}
 use Rattle.first_pass_grammar.proofs.Common.{Item, modify, Rows, Definitions, definitions_first, is_loose, items_of, with_title, list_closed, Closed}
 use Rattle.first_pass_grammar.proofs.Common.{ParagraphAt, NoList, after_paragraph, rendered}
 use Rattle.first_pass_grammar.proofs.Sequences.Tightening.{modify-append, length-closed}
@@ -17,8 +16,7 @@ changed_before : (f : List (ℕ × Item) → ℕ → List (ℕ × Item)) → ((n
 changed_before f front [] o at g b h = absurd (omega arith)
 changed_before f front (n ∷ nodes) o zero g b h = absurd (omega arith)
 changed_before f front (n ∷ nodes) zero (suc at) g b h = front _ nodes at ∙ sym (ap (λ z. modify z zero g) (front n nodes at))
-changed_before f front (n ∷ nodes) (suc o) (suc at) g b h =
-    front n _ at ∙ ap (λ z. n ∷ z) (changed_before f front nodes o at g (omega arith) (omega arith)) ∙ sym (ap (λ z. modify z (suc o) g) (front n nodes at))
+changed_before f front (n ∷ nodes) (suc o) (suc at) g b h = grind (arith, changed_before f front nodes o at g (omega arith) (omega arith))
 
 title_front : (n : ℕ × Item) (nodes : List (ℕ × Item)) (at : ℕ) → with_title (n ∷ nodes) (suc at) ≡ n ∷ with_title nodes at
 unfolding with_title

@@ -123,14 +123,7 @@ labelled defined head = record { links = defined.links; footnotes = with_labels 
 pub told_node : (defined : Tables) (head : Head) (e : ℕ) (kids s : Skeleton)
     → with_all_of (with_all_of (labelled defined head) kids) s ≡ with_all_of defined (Node head e kids s)
 unfolding definitions_of footnotes_of
-told_node defined head e kids s =
-    let label : List (List ℕ) = label_of head.opener in
-    let links = told_links defined.links (definitions_of kids) (definitions_of s) in
-    rw (
-      links,
-      told_labels defined.footnotes label (footnotes_of kids ++ footnotes_of s),
-      told_labels (with_labels defined.footnotes label) (footnotes_of kids) (footnotes_of s),
-    ) refl
+told_node defined head e kids s = grind (arith, told_links, told_labels)
 
 -- Blocks that lead from one state to another: with them before it, each sequence of the second state is a sequence of
 -- the first, and both have the same nodes, gaps and definitions.
@@ -185,9 +178,7 @@ extend d old new gap f h = extend_by d old.frames old.places old new gap f h
 -- the same if it notes none
 pub extend_same : (d : Document) (old new : Reading) (f : Skeleton → Skeleton) → AddsBlocks d old new false f
     → IsStep d old (record new { frames = old.frames; places = old.places })
-extend_same d old new f h forest tables fin =
-    extend d old new false f h forest tables
-    (subst (λ z. IsCompleted d (record new { frames = z; places = old.places }) forest tables) (sym (loosened_in-false old.frames)) fin)
+extend_same d old new f h forest tables fin = search (extend, loosened_in-false)
 
 -- each open node is before the one inside it, and may be directly in the one around it
 abbrev pub AreNested : OpenNodes → Type 0
@@ -197,9 +188,7 @@ AreNested w = AreBelow (length w.nodes) w.places × IsShaped w.frames
 pub stepped : (d : Document) (w now : OpenNodes) (t u : Tail) (from there : Continues) (lines left : List Place)
     → CompletesFrom d w t from lines → IsStep d (reading_at w t from lines) (reading_at now u there left)
     → AreNested now → CompletesFrom d now u there left
-stepped d w now t u from there lines left k step nested =
-    completes_by d now.frames now.places _ there left nested.0 nested.1 (λ forest tables fin.
-    finish_derives d w.defined t w.frames w.nodes w.places from lines k forest tables (step forest tables fin))
+stepped d w now t u from there lines left k step nested = search (completes_by, finish_derives)
 
 -- A block that begins inside a line also begins at the line.
 enter_first : (d : Document) (l : Level) (line q : Place) (lines : List Place) (opening : Opening) → taken l.path line ≡ Some q
@@ -211,10 +200,8 @@ enter_seq : (d : Document) (s : Skeleton) (l : Level) (line q : Place) (lines : 
     → ends_old_footnote l ≡ false → IsSequence d s l (Inside q) lines left → IsSequence d s l Line (line ∷ lines) left
 unfolding IsSequence
 enter_seq d Nil l line q lines left is old seq = enters d.options l line q lines is old ∙ seq
-enter_seq d (Then leaf next) l line q lines left is old (there, mid, first, seq) =
-    (there, mid, enter_first d l line q lines (OpensLeaf leaf there mid) is old first, seq)
-enter_seq d (Node head e kids next) l line q lines left is old (inside, following, mid, first, inner, ends, seq) =
-    (inside, following, mid, enter_first d l line q lines (OpensNode head inside following) is old first, inner, ends, seq)
+enter_seq d (Then leaf next) l line q lines left is old (there, mid, first, seq) = grind (arith, enter_first, lines, seq)
+enter_seq d (Node head e kids next) l line q lines left is old (inside, following, mid, first, inner, ends, seq) = search enter_first
 
 -- The open nodes are completed at the start of a line as after the markers of the containers that it continues.
 pub enter_step : (d : Document) (defined : Tables) (frames : List Frame) (list : Pending) (before : Before) (nodes : List (ℕ × Item)) (os : List ℕ)
@@ -222,14 +209,12 @@ pub enter_step : (d : Document) (defined : Tables) (frames : List Frame) (list :
     → (let w : OpenNodes = open_nodes defined frames nodes os in
     IsStep d (reading w list before Line (line ∷ lines)) (reading w list before (Inside q) lines))
 unfolding Finish
-enter_step d defined [] list before nodes [] line q lines is old forest tables (s, seq, forest_is, tables_are) =
-    (s, enter_seq d s (level [] before) line q lines (Lines []) is old seq, forest_is, tables_are)
+enter_step d defined [] list before nodes [] line q lines is old forest tables (s, seq, forest_is, tables_are) = grind (arith, enter_seq, lines, seq)
 enter_step d defined (InList byte loose ∷ frames) list before nodes (o ∷ os) line q lines is old forest tables fin =
     enter_step d defined frames (OneList o (ItemsOf byte) loose) before nodes os line q lines is old forest tables fin
 enter_step d defined (InDefinitions loose ∷ frames) list before nodes (o ∷ os) line q lines is old forest tables fin =
     enter_step d defined frames (definitions_open o loose list) before nodes os line q lines is old forest tables fin
-enter_step d defined (InContainer c ∷ frames) list before nodes (o ∷ os) line q lines is old forest tables (s, mid, seq, fin) =
-    (s, mid, enter_seq d s (level (c ∷ containers_of frames) before) line q lines mid is old seq, fin)
+enter_step d defined (InContainer c ∷ frames) list before nodes (o ∷ os) line q lines is old forest tables (s, mid, seq, fin) = search enter_seq
 enter_step d defined frames list before nodes os line q lines is old forest tables fin = fin
 
 -- no innermost footnote definition ends at a place
@@ -260,8 +245,7 @@ opens_stays d l p lines o none opens = stays_without d l.path p (no_head d l p l
 
 pub first_here : (d : Document) (l : Level) (p : Place) (lines : List Place) (opening : Opening)
     → StaysAt d l.path p → Opens d l p lines opening → IsFirst d l (Inside p) lines opening
-first_here d l p lines opening stays opens =
-    record { place = p; following = lines; begins = begins_inside d.options l p lines stays; opens = opens }
+first_here d l p lines opening stays opens = search begins_inside
 
 -- a block that opens inside a line: the place, the lines after its line, and what opens
 pub record OpensAtPlace (d : Document) (l : Level) : Type 0 where

@@ -1,5 +1,5 @@
 -- The flags of a list's node, and the end of a definition list's node, do not matter before the list is closed.
-use Rattle.std.proofs.Common.{◌≡◌, ℕ, suc, ◌<◌, Bool, true, ◌||◌, List, ◌∷◌, length, refl, sym, ap, ◌∙◌, subst, arith}
+use Rattle.std.proofs.Common.{◌≡◌, ℕ, suc, ◌<◌, Bool, true, List, ◌∷◌, length, refl, sym, ap, ◌∙◌, subst, arith}
 use Rattle.first_pass_grammar.proofs.Common.{Item, Place, is_quote, Document, Before, after_container, before_end, Continues, onward, end_before, ItemsOf}
 use Rattle.first_pass_grammar.proofs.Common.{DefinitionsTo, Rows, any_gap, rows_of, Joins, with_all_of, ended, Closed, DefinitionClosed, TitleAt, Pending}
 use Rattle.first_pass_grammar.proofs.Common.{NoList, OneList, rows_beyond, rendered, Frame, InContainer, InList, InDefinitions, closed_as, definitions_open}
@@ -86,12 +86,8 @@ reflag_step : (d : Document) (w : OpenNodes) (frame : Frame) (c : Container) (ga
     reading (record w { frames = loosened gap (frame ∷ w.frames); nodes = nodes; places = o ∷ w.places }) (NoList (closed_as c e)) before from lines in
     IsStep d (now w.nodes) (now (reflagged w.nodes o true)))
 unfolding Finish
-reflag_step d w (InList byte loose) c gap o e before from lines around shape =
-    renode_step d w (OneList o (ItemsOf byte) (loose || gap)) before (reflagged w.nodes o true) from lines shape.0
-    (λ k last r. list-reflagged k last w.nodes o (ItemsOf byte) (loose || gap) r)
-reflag_step d w (InDefinitions loose) (Definition columns) gap o e before from lines around shape =
-    renode_step d w (OneList o (DefinitionsTo e) (loose || gap)) before (reflagged w.nodes o true) from lines shape.0
-    (λ k last r. list-reflagged k last w.nodes o (DefinitionsTo e) (loose || gap) r)
+reflag_step d w (InList byte loose) c gap o e before from lines around shape = grind (arith, renode_step, reflagged, list-reflagged)
+reflag_step d w (InDefinitions loose) (Definition columns) gap o e before from lines around shape = grind (arith, renode_step, reflagged, list-reflagged)
 reflag_step d w frame c gap o e before from lines around shape = absurd around
 
 -- The list around a container may be loose already.

@@ -1,14 +1,13 @@
 -- Only the first item of a leaf block may be a paragraph, and link reference definitions have no items.
 use Rattle.std.proofs.Common.{◌≡◌, ℕ, Bool, true, false, List, ◌∷◌, drop, Option, Some, None, MatchOption, IfSome, refl, sym, ap, subst, ◌∙◌, []}
-use Rattle.std.proofs.Common.{if◌then◌else◌, true≢false}
-use Rattle.first_pass_grammar.proofs.Common.{CowStr, Alignment, HeadingLevel, Item, ItemBody, Place, offset, no_braces, spot, leaves, is_markup}
-use Rattle.first_pass_grammar.proofs.Common.{is_paragraph_body, begins_paragraph, is_run, LeafBlock, Block, block_at, Head, opened, at_rest}
-use Rattle.first_pass_grammar.proofs.Common.{footnote_head_at, Kind, Blank, IndentedCode, Metadata, HtmlToEnd, HtmlToBlank, ThematicBreak, AtxHeading}
-use Rattle.first_pass_grammar.proofs.Common.{FencedCode, LinkDefinitions, unindented, Document, around, TextLines, kind_in, Ended, FlowsOn, is_paragraph}
-use Rattle.first_pass_grammar.proofs.Common.{Start, start_at, Continues, Line, Blanks, AtPlace, Anything, OnlyALeaf, TextOf, OnlyMark, Opening, OpensLeaf}
-use Rattle.first_pass_grammar.proofs.Common.{OpensText, OpensRun, OpensAs, OpensBlockAt, OpensBy, OpensFootnote, Opens, OpensAt, opening_by, next_is_blank}
-use Rattle.first_pass_grammar.proofs.Common.{Level, may_define, IsFirst, headed_table, Taken, IsTable, IsPlainText, IsText, IsUnderlined, text_children}
-use Rattle.first_pass_grammar.proofs.Common.{plain_text, underline_first, AreEachNode}
+use Rattle.std.proofs.Common.{if◌then◌else◌, true≢false, arith}
+use Rattle.first_pass_grammar.proofs.Common.{CowStr, Alignment, HeadingLevel, Item, ItemBody, Place, offset, no_braces, spot, is_markup, is_paragraph_body}
+use Rattle.first_pass_grammar.proofs.Common.{begins_paragraph, is_run, LeafBlock, Block, Head, opened, at_rest, footnote_head_at, Kind, Blank, IndentedCode}
+use Rattle.first_pass_grammar.proofs.Common.{Metadata, HtmlToEnd, HtmlToBlank, ThematicBreak, AtxHeading, FencedCode, LinkDefinitions, Document, around}
+use Rattle.first_pass_grammar.proofs.Common.{TextLines, kind_in, Ended, FlowsOn, is_paragraph, Start, start_at, Continues, Line, Blanks, AtPlace, Anything}
+use Rattle.first_pass_grammar.proofs.Common.{OnlyALeaf, TextOf, OnlyMark, Opening, OpensLeaf, OpensText, OpensRun, OpensAs, OpensBlockAt, OpensBy}
+use Rattle.first_pass_grammar.proofs.Common.{OpensFootnote, Opens, OpensAt, opening_by, next_is_blank, Level, may_define, IsFirst, headed_table, Taken}
+use Rattle.first_pass_grammar.proofs.Common.{IsTable, IsPlainText, IsText, IsUnderlined, plain_text, underline_first, AreEachNode}
 use Rattle.first_pass_items.specs.declared.item.ItemBody.TheVariants.{Paragraph as ParagraphBody}
 use Rattle.first_pass_grammar.specs.declared.kind.Container.{Container}
 use Rattle.first_pass_grammar.specs.Kinds.{Paragraph}
@@ -102,10 +101,7 @@ module _ (P : ItemBody → Type 0) where
 module _ (P : ItemBody → Type 0) (d : Document) (holds : HoldsOfTokens d.names.texts P) where
   ended_holds : (start : ℕ) (marker : Option Item) (l : TextLines) (t : Taken) (o : Option (ℕ × HeadingLevel)) → HoldsOfMark P marker → AreEach P l.chain
       → MatchOption o (t ≡ plain_text d start marker l) (λ underline. IsUnderlined d start marker l underline.1 t) → HoldsInText P start t.items
-  ended_holds start marker l t None mark h e =
-      let chain : List Item = text_children marker l in
-      subst (λ (z : Taken). HoldsInText P start z.items) (sym e)
-      (λ begins. ((refl, refl), deeper_nodes P 1 (leaves chain) (leaves_nodes P chain (children_each P holds.text marker l mark h))))
+  ended_holds start marker l t None mark h e = grind (arith, deeper_nodes, leaves_nodes, children_each)
   ended_holds start marker l t (Some underline) mark h (index, named, e) = other_text P start _ _ t.items (ap (λ (z : Taken). z.items) e) refl
 
   text_by : (path : List Container) (p : Place) (marker : Option Item) (lines : List Place) (t : Taken) (o : Option (List Alignment)) → HoldsOfMark P marker
@@ -123,15 +119,12 @@ module _ (P : ItemBody → Type 0) (d : Document) (holds : HoldsOfTokens d.names
   opens_text : (path : List Container) (p : Place) (lines : List Place) (marker : Option Item) (o : Opening) → HoldsOfMark P marker
       → OpensText d path p lines marker o → HoldsInOpening P o
   unfolding OpensText
-  opens_text path p lines marker o mark (t, is, e) =
-      subst (HoldsInOpening P) (sym e)
-      (text_block P (block_at Paragraph p t.items false) refl (text_holds path (unindented p) marker lines t mark is))
+  opens_text path p lines marker o mark (t, is, e) = grind (arith, text_block, text_holds)
 
   opens_run : (path : List Container) (p : Place) (lines : List Place) (o : Opening) → OpensRun d path p lines o → HoldsInOpening P o
   unfolding OpensRun
   opens_run path p lines o (xs, Ended q left, run, e) = subst (HoldsInOpening P) (sym e) (no_text P _ (λ begins. true≢false (sym begins)) (λ run. refl))
-  opens_run path p lines o (xs, FlowsOn q more, run, (t, is, e)) =
-      subst (HoldsInOpening P) (sym e) (text_block P _ refl (text_holds path q None more t tt is))
+  opens_run path p lines o (xs, FlowsOn q more, run, (t, is, e)) = grind (arith, text_block, text_holds)
 
   -- what a kind opens
   pub kind_holds : (path : List Container) (p : Place) (lines : List Place) (kind : Kind) (o : Opening) → OpensAs d path p lines kind o → HoldsInOpening P o

@@ -1,10 +1,9 @@
 -- Nodes with one more definition, and nodes of an open list.
-use Rattle.std.proofs.Common.{◌≡◌, ℕ, suc, ◌<◌, Bool, false, not, ◌||◌, List, ◌∷◌, ◌++◌, length, Option, Some, None, refl, sym, ap, ◌∙◌, append_assoc}
+use Rattle.std.proofs.Common.{◌≡◌, ℕ, suc, ◌<◌, Bool, false, not, ◌||◌, List, ◌∷◌, ◌++◌, length, Option, Some, None, refl, sym, ap, ◌∙◌, append_assoc, arith}
 use Rattle.first_pass_grammar.proofs.Common.{Item, DefinitionListTitle, Before, nothing, after_container, before_end, Skeleton, Node, Head, opened, Joins}
-use Rattle.first_pass_grammar.proofs.Common.{Rows, OneOf, Definitions, definitions_first, row_of, any_gap, is_loose, list_until, items_after, list_after}
-use Rattle.first_pass_grammar.proofs.Common.{rows_of, node_of, items_of, ended, title_taken, title_left, list_closed, OneList, Pending, OneTitle}
-use Rattle.first_pass_grammar.proofs.Common.{rows_beyond, after_paragraph, after_title, rendered, IsPlain, containers_of, in_quote, is_quote, ItemBody}
-use Rattle.first_pass_grammar.proofs.Common.{modify}
+use Rattle.first_pass_grammar.proofs.Common.{Rows, OneOf, Definitions, row_of, any_gap, is_loose, list_until, items_after, list_after, rows_of, node_of}
+use Rattle.first_pass_grammar.proofs.Common.{items_of, ended, title_taken, list_closed, OneList, Pending, OneTitle, rows_beyond, after_title, rendered}
+use Rattle.first_pass_grammar.proofs.Common.{IsPlain, containers_of, in_quote, is_quote, ItemBody, modify}
 use Rattle.first_pass_grammar.proofs.Sequences.Tightening.{list_closed-append, closed_item}
 use Rattle.first_pass_completion.proofs.States.{OpenNodes}
 use Rattle.first_pass_completion.proofs.TitleNodes.{IsAbsorbed, closed-absorbed, end_absorbed, swapped}
@@ -104,17 +103,13 @@ joined w list before head body nodes joins place loose node apart h = record {
 module _ (k last : ℕ) (nodes : List (ℕ × Item)) (o : ℕ) (g : Item → Item) (h : IsAbsorbed g) (loose : Bool) (r : Rows) where
   pub list-absorbed : (joins : Joins) → rendered k last (modify nodes o g) (OneList o joins loose) r ≡ rendered k last nodes (OneList o joins loose) r
   unfolding rendered
-  list-absorbed joins =
-      let now : Bool = loose || is_loose (items_after joins r) in
-      ap (λ z. z ++ (items_of (suc k) (not now) (items_after joins r) ++ items_of k false (list_after joins r)))
-      (closed-absorbed nodes o (suc (suc k)) g now (list_until joins last r) h)
+  list-absorbed joins = grind (arith, closed-absorbed, nodes)
 
   title_absorbed : (at e : ℕ) (ds : Option Definitions)
       → ((x : Item) → g (record x { body = DefinitionListTitle }) ≡ record (g x) { body = DefinitionListTitle })
       → after_title k (modify nodes o g) (o, at, e) loose ds r ≡ after_title k nodes (o, at, e) loose ds r
   unfolding title_taken
-  title_absorbed at e None same =
-      ap (λ z. after_paragraph k (title_left z at) at (definitions_first r) r) (closed-absorbed nodes o (suc (suc k)) g loose e h)
+  title_absorbed at e None same = grind (arith, closed-absorbed, nodes)
   title_absorbed at e (Some ds) same =
       let now : Bool = loose || is_loose ds.items in
       ap (λ z. z ++ (items_of (suc k) (not now) ds.items ++ items_of k false ds.beside))

@@ -1,11 +1,10 @@
 -- What opens at a place, whatever precedes it.
-use Rattle.std.proofs.Common.{◌≡◌, ℕ, ◌&&◌, Bool, true, false, List, ◌∷◌, Option, Some, None, MatchOption, refl, sym, ap, ◌∙◌, subst, if◌then◌else◌}
-use Rattle.std.proofs.Common.{option_map, true≢false}
-use Rattle.first_pass_grammar.proofs.Common.{Options, has, definition_list, Rest, Place, prefix, at_rest, is_blank_rest, footnote_head_at, Document, around}
-use Rattle.first_pass_grammar.proofs.Common.{Opener, DefinitionMarker, Head, opened, Leaf, BlankLine, Block, Skeleton, Nil, Then, Node, Before, after_block}
-use Rattle.first_pass_grammar.proofs.Common.{before_end, gap_before, rows_of, Start, definition_head, definition_start, start_at, Continues, Inside}
-use Rattle.first_pass_grammar.proofs.Common.{Opening, OpensLeaf, OpensNode, OpensBy, OpensFootnote, Opens, level, may_define, opening_by, opening_of}
-use Rattle.first_pass_grammar.proofs.Common.{next_is_blank, Level, Remaining, Begins, Ends, IsFirst, IsSequence, and-false}
+use Rattle.std.proofs.Common.{◌≡◌, ℕ, Bool, true, false, List, Option, Some, None, MatchOption, refl, sym, ap, ◌∙◌, subst, if◌then◌else◌, option_map, arith}
+use Rattle.first_pass_grammar.proofs.Common.{Options, Rest, Place, prefix, at_rest, is_blank_rest, footnote_head_at, Document, around, Opener}
+use Rattle.first_pass_grammar.proofs.Common.{DefinitionMarker, Head, Leaf, BlankLine, Block, Skeleton, Nil, Then, Node, Before, after_block, before_end}
+use Rattle.first_pass_grammar.proofs.Common.{gap_before, rows_of, Start, definition_head, definition_start, start_at, Continues, Inside, Opening, OpensLeaf}
+use Rattle.first_pass_grammar.proofs.Common.{OpensNode, OpensBy, OpensFootnote, Opens, level, may_define, opening_by, opening_of, Level, Remaining, IsFirst}
+use Rattle.first_pass_grammar.proofs.Common.{IsSequence, and-false}
 use Rattle.std.specs.Option.{option_or}
 use Rattle.first_pass_grammar.specs.declared.kind.Container.{Container}
 use Rattle.first_pass_grammar.specs.declared.kind.Container.TheVariants.{BlockQuote}
@@ -56,8 +55,7 @@ start_alike d path before before' p same = record {
 -- a definition may begin after both states, or after neither
 pub takes_alike : (d : Document) (path : List Container) (before before' : Before) (p : Place)
     → definition_may_follow before.last ≡ definition_may_follow before'.last → OpensAlike d path before before' p
-takes_alike d path before before' p is =
-    start_alike d path before before' p (λ none. ap (λ (t : Bool). start_at d.options (has d.options definition_list && t) p) is)
+takes_alike d path before before' p is = grind (arith, start_alike)
 
 either_opens : (t : Bool) (o o' : Opening) → opens_definition o ≡ true → opens_definition o' ≡ true → opens_definition (if t then o else o') ≡ true
 either_opens true o o' h k = h
@@ -65,8 +63,7 @@ either_opens false o o' h k = k
 
 definition_by : (d : Document) (path : List Container) (p q : Place) (lines : List Place) (columns : ℕ) (r : Rest) (t : Bool) → is_blank_rest r ≡ t
     → opens_definition (opening_by d path (definition_head p columns) q lines (after_item None r)) ≡ true
-definition_by d path p q lines columns r true is =
-    rw is (either_opens (next_is_blank (opened (DefinitionMarker columns) ∷ path) lines) _ _ refl refl)
+definition_by d path p q lines columns r true is = grind (arith, either_opens)
 definition_by d path p q lines columns r false is = rw is refl
 
 -- the marker of a definition opens one
@@ -83,8 +80,7 @@ without_by : (d : Document) (path : List Container) (p : Place) (lines : List Pl
 unfolding OpensBy
 without_by d path p lines o (Some item) m q other opens = refl
 without_by d path p lines o None None q other opens = refl
-without_by d path p lines o None (Some marker) q other opens =
-    absurd (true≢false (sym (definition_opens d path p lines marker) ∙ sym (ap opens_definition opens) ∙ other))
+without_by d path p lines o None (Some marker) q other opens = grind (arith, definition_opens)
 
 without : (d : Document) (path : List Container) (p : Place) (lines : List Place) (o : Opening) (t : Bool) → opens_definition o ≡ false
     → OpensBy d path p lines (start_at d.options t p) o → start_at d.options t p ≡ start_at d.options false p
@@ -94,12 +90,7 @@ without d path p lines o t other opens = without_by d path p lines o (item_at p.
 -- what opens is no definition, and none may begin after the other state
 pub other_alike : (d : Document) (path : List Container) (before before' : Before) (p : Place) (lines : List Place) (o : Opening)
     → opens_definition o ≡ false → definition_may_follow before'.last ≡ false → Opens d (level path before) p lines o → OpensAlike d path before before' p
-other_alike d path before before' p lines o other none opens =
-    let start : Option Start = start_at d.options (may_define d (level path before)) p in
-    start_alike d path before before' p (λ head.
-    without d path p lines o _ other (subst (λ h. OpensWith d path p lines o h start) head opens)
-    ∙ sym (ap (λ (t : Bool). start_at d.options (has d.options definition_list && t) p) none
-    ∙ ap (λ (t : Bool). start_at d.options t p) (and-false (has d.options definition_list))))
+other_alike d path before before' p lines o other none opens = grind (arith, start_alike, without, and-false)
 
 -- a first block opens at the place where the sequence continues
 pub opens_first : (d : Document) (path : List Container) (before : Before) (p : Place) (lines : List Place) (o : Opening)
@@ -132,14 +123,8 @@ pub seq_moved : (d : Document) (s : Skeleton) (path : List Container) (before be
     → OpensAlike d path before before' p → SameAfter before before' s
     → IsSequence d s (level path before') (Inside p) lines mid → IsSequence d s (level path before) (Inside p) lines mid
 unfolding IsSequence
-seq_moved d (Then (Block b) next) path before before' p lines mid alike same (there, left, first, seq) = (
-  there,
-  left,
-  first_moved d path before before' p lines (OpensLeaf (Block b) there left) alike first,
-  subst (λ z. IsSequence d next (level path z) there left mid) (sym same) seq,
-)
-seq_moved d (Node head e kids next) path before before' p lines mid alike same (inside, following, left, first, inner, ends, seq) =
-    (inside, following, left, first_moved d path before before' p lines (OpensNode head inside following) alike first, inner, ends, seq)
+seq_moved d (Then (Block b) next) path before before' p lines mid alike same (there, left, first, seq) = grind (arith, first_moved)
+seq_moved d (Node head e kids next) path before before' p lines mid alike same (inside, following, left, first, inner, ends, seq) = grind (arith, first_moved)
 seq_moved d s path before before' p lines mid alike same seq = absurd same
 
 -- the first block of a sequence has the same row too
@@ -189,15 +174,13 @@ flat_leaf d l p lines (Block b) there left first = opened_own d l (Inside p) lin
 
 alike_first : (d : Document) (path : List Container) (before : Before) (p : Place) (lines : List Place) (o o' : Opening)
     → Opens d (level path before) p lines o → IsFirst d (level path before) (Inside p) lines o' → AlikeOpening d.names d.names o o'
-alike_first d path before p lines o o' opens first =
-    one_opening d d.names (level path before) p lines o o' opens (opens_first d path before p lines o' first)
+alike_first d path before p lines o o' opens first = search (one_opening, opens_first)
 
 -- the first block of a sequence is the one that opens at its place
 pub known_first : (d : Document) (path : List Container) (before : Before) (p : Place) (lines : List Place) (mid : Remaining) (o : Opening) (s : Skeleton)
     → StaysAt d path p → Opens d (level path before) p lines o → IsSequence d s (level path before) (Inside p) lines mid → FirstHas (Known d o) s
 unfolding IsSequence
-known_first d path before p lines mid o Nil stays opens seq =
-    (let both : Begins p lines ≡ Ends mid = sym (begins_inside d.options (level path before) p lines stays) ∙ seq in cc)
+known_first d path before p lines mid o Nil stays opens seq = grind (arith, begins_inside)
 known_first d path before p lines mid o (Then leaf next) stays opens (there, left, first, seq) = (
   there,
   left,

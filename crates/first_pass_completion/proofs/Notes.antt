@@ -142,5 +142,4 @@ pub completes-note : (d : Document) (w : OpenNodes) (t : Tail) (b : OpensAtPlace
     → IsPlain w.frames → OpensBlock b.opening → opens_definition b.opening ≡ false
     → CompletesFrom d w t (Inside b.place) b.lines
     → CompletesFrom d (record w { frames = loosened_in t.run w.frames }) (tail t.closed false) (Inside b.place) b.lines
-completes-note d w t b plain block other k =
-    stepped d _ _ _ _ _ _ _ _ k (note_step d w t b plain block other) (k.below, (shaped-loosened_in t.run w.frames k.shape))
+completes-note d w t b plain block other k = search (stepped, note_step, shaped-loosened_in)

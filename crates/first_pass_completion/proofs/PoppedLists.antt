@@ -105,9 +105,7 @@ closed_below nodes o os depth loose e below =
 
 pub title_below : (nodes : List (ℕ × Item)) (o : ℕ) (os : List ℕ) (depth : ℕ) (loose : Bool) (e at : ℕ) → AreBelow (length nodes) (o ∷ os)
     → AreBelow (length (title_left (list_closed nodes o depth loose e) at)) os
-title_below nodes o os depth loose e at below =
-    AreBelow-more (length (list_closed nodes o depth loose e)) _ os
-    (let l = length-left (list_closed nodes o depth loose e) at in omega arith) (closed_below nodes o os depth loose e below)
+title_below nodes o os depth loose e at below = grind (arith, length-left, closed_below)
 
 -- a list is closed with the container around it
 pub completes-pop_list : (d : Document) (w : OpenNodes) (t : Tail) (byte : ℕ) (loose : Bool) (o : ℕ) (h : EndHere d (containers_of w.frames))

@@ -1,10 +1,10 @@
 -- Nodes that are no part of a table stay so when more nodes follow, and when lists and containers are closed.
 use Rattle.std.proofs.Common.{◌≡◌, ℕ, zero, suc, ◌==◌, ◌||◌, not, Bool, true, false, List, [], ◌∷◌, ◌++◌, map, Option, Some, None, refl, sym, ap, ◌∙◌}
-use Rattle.std.proofs.Common.{if◌then◌else◌, subst, append_assoc}
+use Rattle.std.proofs.Common.{if◌then◌else◌, subst, append_assoc, arith}
 use Rattle.first_pass_grammar.proofs.Common.{Item, ItemBody, DefinitionList, modify, map_from, deeper, shallower, tight_body, tightened, Names, Definitions}
 use Rattle.first_pass_grammar.proofs.Common.{definitions_first, Rows, is_loose, list_until, items_after, list_after, items_of, ended, flagged, with_title}
 use Rattle.first_pass_grammar.proofs.Common.{title_taken, title_left, list_closed, ParagraphAt, DefinitionClosed, TitleAt, Pending, NoList, OneList}
-use Rattle.first_pass_grammar.proofs.Common.{OneTitle, after_paragraph, after_title, rendered, closed_as, definitions_open, Mark, shown, marks, TableRows}
+use Rattle.first_pass_grammar.proofs.Common.{OneTitle, after_paragraph, after_title, rendered, closed_as, definitions_open, Mark, marks, TableRows}
 use Rattle.first_pass_grammar.proofs.Common.{table_marks, AreWholeTables, AreEachNode, ShowsNothing, SilentClosed, SilentFrom}
 use Rattle.first_pass_items.specs.declared.item.ItemBody.TheVariants.{List as ListBody, Paragraph as ParagraphBody}
 use Rattle.first_pass_grammar.specs.declared.kind.Container.{Container}
@@ -57,8 +57,7 @@ marks_modified names [] place g stays h = absurd h
 marks_modified names (n ∷ nodes) zero g stays h =
     let now : Item = g n.1 in
     ap (λ (z : List Mark). z ++ marks names nodes) (stays n.1 h names n.0 now.start now.«end» ∙ sym (h names n.0 n.1.start n.1.«end»))
-marks_modified names (n ∷ nodes) (suc place) g stays h =
-    ap (λ (z : List Mark). shown names n.0 n.1.start n.1.«end» n.1.body ++ z) (marks_modified names nodes place g stays h)
+marks_modified names (n ∷ nodes) (suc place) g stays h = grind (arith, marks_modified names nodes place g stays h)
 
 pub from_at : (nodes : List (ℕ × Item)) (i : ℕ) → SilentFrom nodes i → IsSilent nodes i
 from_at [] i h = absurd h
@@ -103,10 +102,8 @@ module _ (g : ℕ × Item → ℕ × Item) (stays : (n : ℕ × Item) → ShowsN
   pub marks_moved : (names : Names) (place : ℕ) (nodes : List (ℕ × Item)) → SilentFrom nodes place → marks names (map_from g place nodes) ≡ marks names nodes
   unfolding marks
   marks_moved names place [] h = absurd h
-  marks_moved names zero (n ∷ nodes) h =
-      none_shown names (map g (n ∷ nodes)) (each_from zero (n ∷ nodes) h) ∙ sym (none_shown names (n ∷ nodes) h)
-  marks_moved names (suc place) (n ∷ nodes) h =
-      ap (λ (z : List Mark). shown names n.0 n.1.start n.1.«end» n.1.body ++ z) (marks_moved names place nodes h)
+  marks_moved names zero (n ∷ nodes) h = search (none_shown, each_from)
+  marks_moved names (suc place) (n ∷ nodes) h = grind (arith, marks_moved names place nodes h)
 
 tight_stays : (t : Bool) (x : Item) → ShowsNothing x.body
     → (let y : Item = if t then record { start = x.start; «end» = x.«end»; body = tight_body x.body } else x in ShowsNothing y.body)
@@ -120,8 +117,7 @@ marks_from : (names : Names) (depth place : ℕ) (nodes : List (ℕ × Item)) �
 unfolding marks
 marks_from names depth zero nodes = marks-tightened names depth nodes
 marks_from names depth (suc place) [] = refl
-marks_from names depth (suc place) (n ∷ nodes) =
-    ap (λ (z : List Mark). shown names n.0 n.1.start n.1.«end» n.1.body ++ z) (marks_from names depth place nodes)
+marks_from names depth (suc place) (n ∷ nodes) = grind (arith, marks_from names depth place nodes)
 
 -- a list that is closed
 silent_flagged : (loose : Bool) (b : ItemBody) → ShowsNothing b → ShowsNothing (flagged loose b)
@@ -133,9 +129,7 @@ pub from_closed : (nodes : List (ℕ × Item)) (place depth : ℕ) (loose : Bool
     → SilentFrom nodes i → SilentFrom (list_closed nodes place depth loose e) i
 unfolding list_closed
 from_closed nodes place depth true e i h = from_modified nodes place i _ (λ x k. silent_flagged true x.body k) h
-from_closed nodes place depth false e i h =
-    from_modified (map_from (tightened depth) place nodes) place i _ (λ x k. silent_flagged false x.body k)
-    (from_from (tightened depth) (stays_tight depth) place nodes i h)
+from_closed nodes place depth false e i h = grind (arith, from_modified, silent_flagged, from_from, stays_tight)
 
 -- a container that is closed
 pub marks_ended : (names : Names) (nodes : List (ℕ × Item)) (place e : ℕ) → IsSilent nodes place → marks names (ended nodes place e) ≡ marks names nodes
@@ -162,15 +156,12 @@ unfolding marks with_title
 marks_titled names [] place h = absurd h
 marks_titled names (n ∷ nodes) zero h =
     none_shown names (map deeper nodes) (each_from deeper (λ m k. k) zero nodes h.1) ∙ sym (none_shown names (n ∷ nodes) h)
-marks_titled names (n ∷ nodes) (suc place) h =
-    ap (λ (z : List Mark). shown names n.0 n.1.start n.1.«end» n.1.body ++ z) (marks_titled names nodes place h)
+marks_titled names (n ∷ nodes) (suc place) h = grind (arith, marks_titled names nodes place h)
 
 -- a possible title that becomes a paragraph after its list
 pub from_left : (nodes : List (ℕ × Item)) (place i : ℕ) → SilentFrom nodes i → SilentFrom (title_left nodes place) i
 unfolding title_left
-from_left nodes place i h =
-    from_from shallower (λ n k. k) place (modify nodes place (λ x. record x { body = ParagraphBody })) i
-    (from_modified nodes place i _ (λ x k names depth start end. refl) h)
+from_left nodes place i h = grind (arith, from_from, from_modified)
 
 -- After a change the nodes have the same marks, and what was no part of a table is still none.
 record KeepsShown (nodes now : List (ℕ × Item)) : Type 0 where
@@ -185,8 +176,7 @@ kept_same : (nodes : List (ℕ × Item)) → KeepsShown nodes nodes
 kept_same nodes = record { marks_are = λ names. refl; silent = λ i is. is }
 
 kept_modified : (nodes : List (ℕ × Item)) (place : ℕ) (g : Item → Item) → StaysSilent g → IsSilent nodes place → KeepsShown nodes (modify nodes place g)
-kept_modified nodes place g stays h =
-    record { marks_are = λ names. marks_modified names nodes place g stays h; silent = λ i is. silent_modified nodes place i g stays is }
+kept_modified nodes place g stays h = search (marks_modified, silent_modified)
 
 kept_closed : (nodes : List (ℕ × Item)) (place depth : ℕ) (loose : Bool) (e : ℕ) → IsSilent nodes place
     → KeepsShown nodes (list_closed nodes place depth loose e)
@@ -260,8 +250,7 @@ renders_paragraph : (depth : ℕ) (nodes now : List (ℕ × Item)) (place : ℕ)
     → KeepsShown nodes now → SilentFrom now place → WholeIf rows o → RendersAs nodes rows (after_paragraph depth now place o rows)
 renders_paragraph depth nodes now place None rows keeps from whole = renders_beside depth nodes now rows keeps
 renders_paragraph depth nodes now place (Some ds) rows keeps from whole =
-    renders_with depth nodes (with_title now place) place (is_loose ds.items) ds rows (kept_both nodes now _ keeps (kept_titled now place from))
-    (silent_titled now place place from (from_at now place from)) whole
+    grind (arith, renders_with, now, kept_both, keeps, kept_titled, silent_titled, from_at, whole)
 
 -- the list of a possible title, with or without the title
 apart_by : (names : Names) (t : Bool) (ds : Definitions) → HoldsOfFirst (AreWholeTables names) (Some ds)
@@ -277,9 +266,7 @@ unless_apart names (Some ds) h = apart_by names ds.apart ds h
 renders_title : (depth : ℕ) (nodes : List (ℕ × Item)) (l : OpenDefinitions) (title : ℕ) (o : Option Definitions) (rows : Rows)
     → IsSilent nodes l.place → SilentFrom nodes title → WholeIf rows o
     → RendersAs nodes rows (after_title depth nodes (l.place, title, l.«end») l.loose o rows)
-renders_title depth nodes l title (Some ds) rows silent from whole =
-    let taken : KeepsShown nodes (title_taken nodes title) = kept_taken nodes title from in
-    renders_with depth nodes (title_taken nodes title) l.place (l.loose || is_loose ds.items) ds rows taken (taken.silent l.place silent) whole
+renders_title depth nodes l title (Some ds) rows silent from whole = grind (arith, kept_taken, renders_with, silent, whole)
 renders_title depth nodes l title None rows silent from whole =
     let closed : List (ℕ × Item) = list_closed nodes l.place (suc (suc depth)) l.loose l.«end» in
     let still = from_closed nodes l.place (suc (suc depth)) l.loose l.«end» title from in
@@ -290,8 +277,7 @@ renders_title depth nodes l title None rows silent from whole =
 renders : (depth last : ℕ) (nodes : List (ℕ × Item)) (list : Pending) (rows : Rows) → SilentList nodes list
     → RendersAs nodes rows (rendered depth last nodes list rows)
 unfolding rendered
-renders depth last nodes (NoList (ParagraphAt place)) rows silent =
-    renders_paragraph depth nodes nodes place (definitions_first rows) rows (kept_same nodes) silent (λ names h. first_rows (AreWholeTables names) rows h)
+renders depth last nodes (NoList (ParagraphAt place)) rows silent = grind (arith, renders_paragraph, kept_same, silent, first_rows)
 renders depth last nodes (NoList closed) rows silent = renders_beside depth nodes nodes rows (kept_same nodes)
 renders depth last nodes (OneList place joins loose) rows silent =
     let now : Bool = loose || is_loose (items_after joins rows) in record {
@@ -327,8 +313,7 @@ silent_rendered depth last nodes list rows i silent h =
 pub silent_place : (depth last place e : ℕ) (nodes : List (ℕ × Item)) (list : Pending) (rows : Rows) (i : ℕ) → SilentList nodes list → IsSilent nodes i
     → IsSilent (ended (rendered depth last nodes list rows) place e) i
 unfolding ended
-silent_place depth last place e nodes list rows i silent h =
-    silent_modified (rendered depth last nodes list rows) place i _ (λ x k. k) (silent_rendered depth last nodes list rows i silent h)
+silent_place depth last place e nodes list rows i silent h = grind (arith, silent_modified, silent_rendered, silent)
 
 -- a closed container becomes no title; a node that may continue an open definition list is no part of a table
 pub silent_as : (nodes : List (ℕ × Item)) (c : Container) (e : ℕ) → SilentClosed nodes (closed_as c e)

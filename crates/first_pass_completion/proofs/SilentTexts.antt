@@ -1,5 +1,5 @@
 -- A paragraph that opens, with what is below it, has no part of a table; a definition list may take it in.
-use Rattle.std.proofs.Common.{◌≡◌, ℕ, ◌+◌, true, List, [], ◌∷◌, ◌++◌, length, drop, refl}
+use Rattle.std.proofs.Common.{◌≡◌, ℕ, ◌+◌, true, List, [], ◌∷◌, ◌++◌, length, drop, refl, arith}
 use Rattle.first_pass_grammar.proofs.Common.{Item, ItemBody, at_depth, Place, is_paragraph_body, begins_paragraph, LeafBlock, Block, Document, Continues}
 use Rattle.first_pass_grammar.proofs.Common.{Level, OpensLeaf, IsFirst, AreEachNode, ShowsNothing, SilentFrom}
 use Rattle.first_pass_items.specs.declared.item.ItemBody.TheVariants.{Paragraph as ParagraphBody}
@@ -34,5 +34,4 @@ silent_past (m ∷ nodes) n more h = silent_past nodes n more h
 pub silent_added : (nodes : List (ℕ × Item)) (depth : ℕ) (items : List (ℕ × Item)) → begins_paragraph items ≡ true → AreEachNode ShowsNothing items
     → SilentFrom (nodes ++ at_depth depth items) (length nodes)
 silent_added nodes depth [] begins h = cc
-silent_added nodes depth (x ∷ items) begins h =
-    silent_past nodes (depth + x.0, x.1) (at_depth depth items) (deeper_nodes ShowsNothing depth (x ∷ items) h)
+silent_added nodes depth (x ∷ items) begins h = grind (arith, silent_past, deeper_nodes)

@@ -56,8 +56,7 @@ pub closed-mid : (nodes more : List (ℕ × Item)) (x : ℕ × Item) (d : ℕ) (
     → list_closed (nodes ++ x ∷ more) (length nodes) d loose e ≡ nodes ++ (x.0, node_of x.1.start e (flagged loose x.1.body)) ∷ more
 unfolding list_closed
 closed-mid nodes more x d true e h = modify-at nodes more x (length nodes) _ refl
-closed-mid nodes more x d false e h =
-    rw (map_from-mid (tightened d) nodes (x ∷ more), kept_nodes d (x ∷ more) h) (modify-at nodes more x (length nodes) _ refl)
+closed-mid nodes more x d false e h = grind (arith, map_from-mid, kept_nodes, modify-at)
 
 -- a list that is closed, with more nodes, none of which is a paragraph
 kept_if : (d : ℕ) (loose : Bool) (more : List (ℕ × Item)) → NoParagraph more → (if loose then more else map (tightened d) more) ≡ more
@@ -66,8 +65,7 @@ kept_if d false more h = kept_nodes d more h
 
 pub closed-kept : (nodes more : List (ℕ × Item)) (o d : ℕ) (loose : Bool) (e : ℕ) → o < length nodes → NoParagraph more
     → list_closed (nodes ++ more) o d loose e ≡ list_closed nodes o d loose e ++ more
-closed-kept nodes more o d loose e h flat =
-    list_closed-append nodes more o d loose e h ∙ ap (λ z. list_closed nodes o d loose e ++ z) (kept_if d loose more flat)
+closed-kept nodes more o d loose e h flat = grind (arith, list_closed-append, kept_if)
 
 with_title-mid : (nodes more : List (ℕ × Item)) (x : ℕ × Item)
     → with_title (nodes ++ x ∷ more) (length nodes)
@@ -101,17 +99,7 @@ pub titled_closed : (k : ℕ) (nodes items : List (ℕ × Item)) (start d : ℕ)
     → list_closed (with_title (nodes ++ at_depth k items) (length nodes)) (length nodes) d loose e
     ≡ nodes ++ (k, node_of start e (DefinitionList (list_flags (not loose)))) ∷ at_depth (suc k) (as_title items)
 titled_closed k nodes [] start d loose e is flat own = absurd own
-titled_closed k nodes (x ∷ items) start d loose e is flat own =
-    let here : k + x.0 ≡ k = let z : x.0 ≡ 0 = own.0 in omega arith in
-    let below : suc (k + x.0) ≡ suc k + x.0 = omega arith in
-    let deep = deeper_at k items in
-    let first = own.1 in
-    let title : Item = record x.1 { body = DefinitionListTitle } in
-    let list : Item = record x.1 { body = DefinitionList (list_flags true) } in
-    let mid = with_title-mid nodes (at_depth k items) (k + x.0, x.1) in
-    let more : List (ℕ × Item) = (suc (k + x.0), title) ∷ at_depth (suc k) items in
-    let closed = closed-mid nodes more (k + x.0, list) d loose e (refl, (refl, at_depth-flat (suc k) items flat)) in
-    cc
+titled_closed k nodes (x ∷ items) start d loose e is flat own = grind (arith, deeper_at, with_title-mid, closed-mid, at_depth-flat)
 
 -- a possible title that becomes a title, or a paragraph after the list
 pub possible-flat : (k : ℕ) (items : List (ℕ × Item)) → NoParagraph (drop 1 items) → NoParagraph (at_depth k (as_possible items))
@@ -136,23 +124,14 @@ left-mid : (k : ℕ) (nodes items : List (ℕ × Item)) → begins_paragraph ite
     → title_left (nodes ++ at_depth (suc k) (as_possible items)) (length nodes) ≡ nodes ++ at_depth k items
 unfolding title_left
 left-mid k nodes [] is = cc
-left-mid k nodes (x ∷ items) is =
-    let body : ParagraphBody ≡ x.1.body = paragraph_is x.1.body is in
-    let here : (suc k + x.0) - 1 ≡ k + x.0 = omega arith in
-    let p : Item = record x.1 { body = ParagraphBody } in
-    ap (λ z. map_from shallower (length nodes) z)
-    (modify-at nodes (at_depth (suc k) items) (suc k + x.0, record x.1 { body = MaybeDefinitionListTitle }) (length nodes) _ refl)
-    ∙ map_from-mid shallower nodes ((suc k + x.0, p) ∷ at_depth (suc k) items)
-    ∙ rw (shallower_at k items, here, body) refl
+left-mid k nodes (x ∷ items) is = grind (arith, paragraph_is, modify-at, map_from-mid, shallower_at)
 
 -- the same after the list before it is closed
 pub left-closed : (k : ℕ) (nodes items : List (ℕ × Item)) (place d : ℕ) (loose : Bool) (e : ℕ)
     → begins_paragraph items ≡ true → NoParagraph (drop 1 items) → place < length nodes
     → title_left (list_closed (nodes ++ at_depth (suc k) (as_possible items)) place d loose e) (length nodes)
     ≡ list_closed nodes place d loose e ++ at_depth k items
-left-closed k nodes items place d loose e is flat h =
-    rw (closed-kept nodes (at_depth (suc k) (as_possible items)) place d loose e h (possible-flat (suc k) items flat))
-    (rw (length-closed nodes place d loose e) at (left-mid k (list_closed nodes place d loose e) items is))
+left-closed k nodes items place d loose e is flat h = grind (arith, closed-kept, possible-flat, length-closed, left-mid)
 
 -- A change of a list's node that keeps its start, and flags as the list is closed, does not matter after that.
 pub record IsAbsorbed (g : Item → Item) : Type 0 where

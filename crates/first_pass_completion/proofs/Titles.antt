@@ -1,13 +1,12 @@
 -- Nodes with one more leaf block.
 use Rattle.std.proofs.Common.{◌≡◌, ℕ, suc, ◌<◌, Bool, true, false, not, ◌||◌, List, [], ◌++◌, length, Option, Some, None, refl, sym, ap, ◌∙◌, append_assoc}
-use Rattle.std.proofs.Common.{if◌then◌else◌, option_map, subst, append-nil, true≢false}
+use Rattle.std.proofs.Common.{if◌then◌else◌, option_map, subst, append-nil, true≢false, arith}
 use Rattle.first_pass_grammar.proofs.Common.{option_map_or, or-false, Item, at_depth, begins_paragraph, is_run, LeafBlock, DefinitionsTo, Rows, End, OneOf}
 use Rattle.first_pass_grammar.proofs.Common.{Definitions, apart_after, definitions_first, titled, leaf_row, row_of_leaf, ATitle, Row, any_gap, is_loose}
 use Rattle.first_pass_grammar.proofs.Common.{is_untitled, is_run_row, list_after, continues_list, as_title, block_items, items_of, with_title, title_taken}
 use Rattle.first_pass_grammar.proofs.Common.{title_left, list_closed, Closed, OtherClosed, ParagraphAt, NoList, OneList, OneTitle, rows_beyond}
 use Rattle.first_pass_grammar.proofs.Common.{after_paragraph, after_title, rendered, Pending}
-use Rattle.first_pass_grammar.specs.Rows.{ADefinitionList, WithTitle, Apart}
-use Rattle.first_pass_grammar.specs.Rows.{is_apart, was_possible_title}
+use Rattle.first_pass_grammar.specs.Rows.{ADefinitionList, WithTitle, Apart, is_apart, was_possible_title}
 use Rattle.first_pass_grammar.specs.Completion.{beside_or, not_apart, closed_with}
 use Rattle.first_pass_completion.proofs.FlatBlocks.{FlatBlock, OwnParagraph}
 use Rattle.first_pass_grammar.proofs.Sequences.Tightening.{length-closed}
@@ -90,12 +89,7 @@ run_by : (k : ℕ) (nodes : List (ℕ × Item)) (at : ℕ) (b : LeafBlock) (gap 
     × (any_gap (beside_or (option_map (apart_after row End) o) (OneOf row End r)) ≡ (gap || any_gap (beside_or o r))))
 unfolding any_gap
 run_by k nodes at b gap r None none = (ap (λ z. nodes ++ z) (run_items k b gap r none), refl)
-run_by k nodes at b gap r (Some ds) none =
-    let loose : Bool = is_loose ds.items in (
-      ap (λ z. list_closed (with_title nodes at) at (suc (suc k)) loose ds.«end» ++ (items_of (suc k) (not loose) ds.items ++ z))
-          (run_items k b gap ds.beside none),
-      refl,
-    )
+run_by k nodes at b gap r (Some ds) none = grind (arith, run_items)
 
 run_added : (k last : ℕ) (nodes : List (ℕ × Item)) (closed : Closed) (b : LeafBlock) (gap : Bool) (r : Rows) → is_run b.kind ≡ true → b.items ≡ []
     → LeadsTo k last nodes closed (OneOf (row_of_leaf b gap) End r) (rendered k last nodes (NoList closed) r) (gap || any_gap (rows_beyond (NoList closed) r))

@@ -2,11 +2,11 @@
 -- a block follows them.
 use Rattle.std.proofs.Common.{◌≡◌, inl, inr, ℕ, ◌+◌, ◌<◌, ◌≤◌, Bool, true, false, List, length, drop, Some, None, IsUtf8, IsCharBoundary, refl, sym, ap}
 use Rattle.std.proofs.Common.{subst, ◌∙◌, arith, if◌then◌else◌, is_some, ◌⊎◌, [], ◌∷◌, Option, length-append, option_map}
-use Rattle.first_pass_grammar.proofs.Common.{cases_lt, Item, Forest, IsForest, added, at_depth, line_len, blank_len, Rest, indent, after_columns}
-use Rattle.first_pass_grammar.proofs.Common.{past_quote, place_at, line_rest, offset, line_end, line_place, Place, IsPlaceOf, line_len-within}
-use Rattle.first_pass_grammar.proofs.Common.{lines_at-line, line_is_place, place_length, columns_keep, columns_shorter, after, in_old_footnote, prefix}
-use Rattle.first_pass_grammar.proofs.Common.{is_blank_rest, all_taken, unindented, Options, Document, document, lines_from, Names, HasWholeTables}
-use Rattle.first_pass_grammar.proofs.Common.{BlockQuoteKind, ItemBody, CowIndex, has, task_of, task_by, task_after, after_task, node_of, IsOrderedTo}
+use Rattle.first_pass_grammar.proofs.Common.{cases_lt, Item, Forest, IsForest, added, at_depth, line_len, blank_len, Rest, indent, after_columns, past_quote}
+use Rattle.first_pass_grammar.proofs.Common.{place_at, line_rest, offset, line_end, line_place, Place, IsPlaceOf, line_len-within, lines_at-line}
+use Rattle.first_pass_grammar.proofs.Common.{line_is_place, place_length, columns_keep, columns_shorter, after, in_old_footnote, prefix, is_blank_rest}
+use Rattle.first_pass_grammar.proofs.Common.{all_taken, unindented, Options, Document, document, lines_from, Names, HasWholeTables, BlockQuoteKind, ItemBody}
+use Rattle.first_pass_grammar.proofs.Common.{CowIndex, task_of, task_by, task_after, after_task, node_of, IsOrderedTo}
 use Rattle.first_pass_open.specs.Path.{path_in, path_of, outer}
 use Rattle.first_pass_open.proofs.FrontLemmas.{outer-all}
 use Rattle.first_pass_open.proofs.PathLemmas.{open_are_in, path_in-append, get_front}
@@ -75,11 +75,7 @@ ordered_at_place text f start p line boundary i o =
 -- an offset after the start of a line that is before the end of the text
 pub line_later : (text : List ℕ) (start far next : ℕ)
     → start < length text → far ≡ start + line_len (drop start text) → far ≤ next → IsCharBoundary text next → (start < next) × (next ≤ length text)
-line_later text start far next within ends later boundary =
-    let line = line_len-within text start within in
-    let some = line.0 in
-    let high = boundary.0 in
-    (omega arith, omega arith)
+line_later text start far next within ends later boundary = grind (arith, line_len-within)
 
 line_or-list : (f : Forest Item) (line at : ℕ) → is_list (top_body f) ≡ true → line_or f line at ≤ line
 line_or-list f line at h = (let e : line_or f line at ≡ line = rw h refl in omega arith)
@@ -191,16 +187,12 @@ mark_by text line r (Some task) from u h i low =
 
 pub mark_stands : (text : List ℕ) (options : Options) (line : ℕ) (r : Rest) (from : ℕ) → IsUtf8 text → IsPlaceOf text (place_at line r)
     → from ≤ offset (place_at line r) → MarkerBetween text from (offset (place_at line (task_after options line r).1)) (task_after options line r).0
-mark_stands text options line r from u i low =
-    mark_by text line r (if has options 16 then task_of r else None) from u (λ task h. option_on (has options 16) (task_of r) task h) i low
+mark_stands text options line r from u i low = grind (arith, mark_by, option_on)
 
 -- a marker that is between two offsets is between any before and after them
 pub stands_between : (text : List ℕ) (a b c e : ℕ) (marker : Option Item) → a ≤ b → c ≤ e → MarkerBetween text b c marker → MarkerBetween text a e marker
 stands_between text a b c e None low high h = let t : b ≤ c = h in let wider : a ≤ e = omega arith in wider
-stands_between text a b c e (Some x) low high h =
-    let first : b ≤ x.start = h.1.following in
-    let last : x.«end» ≤ c = h.1.before in
-    (h.0, record { following = omega arith; order = h.1.order; before = omega arith; starts = h.1.starts; ends = h.1.ends })
+stands_between text a b c e (Some x) low high h = grind arith
 
 -- an item with something after its markers
 pub ordered_container : (options : Options) (text : List ℕ) (q : PassState) (start e : ℕ) (p : Place) (marker : Option Item)
@@ -208,8 +200,7 @@ pub ordered_container : (options : Options) (text : List ℕ) (q : PassState) (s
     → MarkerBetween text start (offset p) marker → OrderedOn options text q (after_at p e (after_task marker))
 ordered_container options text q start e p None none high boundary o stands =
     (boundary, ordered_on text q.tree p.line start (offset p) none stands high o)
-ordered_container options text q start e p (Some x) none high boundary (o, c) stands =
-    record { from = start; ordered = o; nested = c.nested; plain = none; stands = stands }
+ordered_container options text q start e p (Some x) none high boundary (o, c) stands = grind arith
 
 marked_by : (text : List ℕ) (f : Forest Item) (start next : ℕ) (marker : Option Item) → next ≤ length text → IsOrderedTo text f start
     → MarkerBetween text start next marker → IsOrderedTo text (with_child f marker) next
@@ -241,8 +232,7 @@ ordered_empty_item text start next body r marker blank item boundary (o, c) stan
 -- a block is added
 pub ordered_block : (text : List ℕ) (old : Forest Item) (r : PassState) (from next : ℕ)
     → AddsBetween text from next old r.tree → next ≤ length text → r.begin_list_item ≡ None → IsOrderedTo text old from → IsOrderedAt text r next
-ordered_block text old r from next a high none o =
-    ordered_none text r next none high (subst (λ f. IsOrderedTo text f next) (sym a.tree_is) (ordered_added text old from next a.items a.fits high o))
+ordered_block text old r from next a high none o = grind (arith, ordered_none, ordered_added)
 
 -- the same if the innermost open node is no list
 pub read_block : (text : List ℕ) (old : Forest Item) (r : PassState) (from next : ℕ) → AreNested old.nodes old.spine → is_list (top_body old) ≡ false
@@ -345,20 +335,7 @@ pub entered_whole : (options : Options) (text : List ℕ) (r : PassState) (at ke
     → ((m : ℕ) → kept < m → m ≤ length r.tree.spine → after (path_in options r.tree.nodes (outer m r.tree.spine)) line ≡ None)
     → IsOrderedAtBlankLine options text r at
     → (kept ≡ length r.tree.spine) × (is_blank_rest left ≡ true)
-entered_whole options text r at kept line left is within took stops h =
-    let ns = r.tree.nodes in
-    let spine = r.tree.spine in
-    let all : after (path_in options ns (outer (length spine) spine)) line ≡ Some h.rest =
-    ap (λ z. after (path_in options ns z) line) (outer-all spine) ∙ ap (after (path_of options r.tree)) is ∙ h.taken in
-    elim (cases_lt kept (length spine)) [
-      | inl less ↦ (let none = stops (length spine) less (omega arith) in cc)
-      | inr more ↦
-          (let same : kept ≡ length spine = omega arith in
-          let here : after (path_in options ns (outer (length spine) spine)) line ≡ Some left =
-          subst (λ k. after (path_in options ns (outer k spine)) line ≡ Some left) same took in
-          let rest_is : h.rest ≡ left = cc in
-          (same, ap is_blank_rest (sym rest_is) ∙ h.blank))
-    ]
+entered_whole options text r at kept line left is within took stops h = grind (arith, outer-all, cases_lt)
 
 -- After such a blank line is read, the state is in order up to its end.
 blank_line_read : (options : Options) (text : List ℕ) (r : PassState) (at : ℕ)

@@ -1,24 +1,20 @@
 -- The laws on ready states: one can be completed, and already has whole tables. Other lemmas on ready states are in
 -- `first_pass_ready`.
-use Rattle.std.proofs.Common.{◌≡◌, ℕ, Bool, true, false, List, [], ◌∷◌, length, map, slice_get, Option, Some, None, refl, sym, ap, ◌∙◌, subst, arith, zero}
+use Rattle.std.proofs.Common.{◌≡◌, ℕ, Bool, true, false, List, [], ◌∷◌, length, map, Option, Some, None, refl, sym, ap, ◌∙◌, subst, arith, zero}
 use Rattle.std.proofs.Common.{suc, option_and_then}
-use Rattle.first_pass_grammar.proofs.Common.{same_Some, none-some, Item, ItemBody, TreeIndex, Forest, body_at, with_body_at, Place, Names, Extends}
-use Rattle.first_pass_grammar.proofs.Common.{AreNamed, Document, document, Tables, Continues, Line, Blanks, next_is_blank, NoList, Unfinished, Frame}
-use Rattle.first_pass_grammar.proofs.Common.{last_of, Completes, lines_from, InContainer, body-changed, Options, DefinitionList, DefinitionListDefinition}
-use Rattle.first_pass_grammar.proofs.Common.{marks, ShowsNothing, AreWholeTables}
+use Rattle.first_pass_grammar.proofs.Common.{same_Some, none-some, Item, ItemBody, TreeIndex, Forest, body_at, with_body_at, Place, Names, Extends, AreNamed}
+use Rattle.first_pass_grammar.proofs.Common.{Document, document, Tables, Continues, Line, Blanks, next_is_blank, NoList, Unfinished, Frame, last_of}
+use Rattle.first_pass_grammar.proofs.Common.{Completes, lines_from, InContainer, body-changed, Options, marks, ShowsNothing, AreWholeTables}
 use Rattle.first_pass_grammar.specs.Completion.{CanGoOn}
 use Rattle.first_pass_grammar.proofs.Names.MoreNames.{extends_none}
 use Rattle.first_pass_exists.proofs.Completed.{line_goes_on, completion_derives}
-use Rattle.first_pass_open.specs.Path.{container_of, with_container, path_in, path_of}
+use Rattle.first_pass_open.specs.Path.{path_of}
 use Rattle.first_pass_lists.specs.declared.state.PassState.{PassState}
-use Rattle.first_pass_ready.specs.State.{AreOpen, ReadyAt, ReadyBeforeLine, ReadyInItem, ReadyEmpty, ReadyWith, Ready, closed_in, body_without_indent}
+use Rattle.first_pass_ready.specs.State.{AreOpen, ReadyAt, ReadyBeforeLine, ReadyInItem, ReadyEmpty, ReadyWith, Ready, closed_in}
 use Rattle.first_pass_ready.specs.State.{top_without_indent, frame_of, frame_at, StaysReady}
 use Rattle.first_pass_containers.specs.Completed.{CompletedAt, CompletedBeforeLine, CompletedInItem, CompletedWith, IsCompleted}
-use Rattle.first_pass_grammar.specs.declared.kind.Container.{Container}
 use Rattle.first_pass_ready.proofs.ItemBodies.{item_body, item_own, item_path, without_indent_is, item_container, item_frame}
 use Rattle.first_pass_ready.proofs.OpenLemmas.{open_path}
-use Rattle.first_pass_items.specs.declared.item.ItemBody.TheVariants.{BlockQuote as BlockQuoteBody, List as ListBody, ListItem as ListItemBody}
-use Rattle.first_pass_items.specs.declared.item.ItemBody.TheVariants.{FootnoteDefinition as FootnoteDefinitionBody}
 use Rattle.first_pass_grammar.proofs.Sequences.LinesLeft.{lines_from_at}
 use Rattle.first_pass_grammar.proofs.Sequences.PlacesKept.{AreAt}
 use Rattle.first_pass_completion.proofs.SilentNodes.{IsSilent, AreSilent, marks_modified}
@@ -28,13 +24,7 @@ use Rattle.first_pass_grammar.proofs.WholeTables.WholeForests.{whole_same}
 
 -- an open node is a container or a list, and has no part of a table
 frame_silent : (options : Options) (b : ItemBody) (frame : Frame) → frame_of options b ≡ Some frame → ShowsNothing b
-frame_silent options (BlockQuoteBody kind) frame h = λ names depth start end. refl
-frame_silent options (ListItemBody columns) frame h = λ names depth start end. refl
-frame_silent options (FootnoteDefinitionBody label) frame h = λ names depth start end. refl
-frame_silent options (DefinitionListDefinition columns) frame h = λ names depth start end. refl
-frame_silent options (ListBody flags byte number) frame h = λ names depth start end. refl
-frame_silent options (DefinitionList flags) frame h = λ names depth start end. refl
-frame_silent options b frame h = absurd (none-some frame h)
+frame_silent options b frame h = λ names depth start end. grind (arith, h)
 
 open_silent : (options : Options) (nodes : List (ℕ × Item)) (i : ℕ) (frame : Frame) → frame_at options nodes i ≡ Some frame → IsSilent nodes i
 open_silent options [] i frame h = absurd (none-some frame h)
@@ -57,10 +47,7 @@ open_once options nodes [] [] (other ∷ others) o p = absurd p
 open_once options nodes [] (frame ∷ frames) others o p = absurd o
 open_once options nodes (ix ∷ spine) [] others o p = absurd o
 open_once options nodes (ix ∷ spine) (frame ∷ frames) [] o p = absurd p
-open_once options nodes (ix ∷ spine) (frame ∷ frames) (other ∷ others) o p =
-    let first : frame ≡ other = same_Some frame other (sym o.0 ∙ p.0) in
-    let rest = open_once options nodes spine frames others o.1 p.1 in
-    cc
+open_once options nodes (ix ∷ spine) (frame ∷ frames) (other ∷ others) o p = grind (arith, same_Some, open_once options nodes spine frames others o.1 p.1)
 
 abbrev unfinished_of : Tables → Forest Item → List Frame → Bool → Unfinished
 unfinished_of defined tree frames run = record {
@@ -108,11 +95,7 @@ completed_at d defined tree run from lines can plain ready =
 -- an empty item or definition is a container
 item_goes_on : (options : Options) (f : Forest Item) (ix : TreeIndex) (rest : List TreeIndex) (b : ItemBody) (n : ℕ) (from : Continues) → f.spine ≡ ix ∷ rest
     → body_at f.nodes ix.0 ≡ Some (item_body b n) → CanGoOn (path_of options f) from
-item_goes_on options f ix rest b n from spine item =
-    let path : List Container = path_in options f.nodes rest in
-    subst (λ (s : List TreeIndex). CanGoOn (path_in options f.nodes s) from) (sym spine)
-    (subst (λ (o : Option Container). CanGoOn (with_container o path) from)
-    (sym (ap (option_and_then (container_of options)) item ∙ item_path options b n)) tt)
+item_goes_on options f ix rest b n from spine item = grind (arith, item_path)
 
 module _ (d : Document) (defined : Tables) (r : PassState) (lines : List Place) (e : ℕ) (empty : ReadyEmpty d defined r e lines) where
   top_is : (b : ItemBody) × (body_at r.tree.nodes empty.place.0 ≡ Some (item_body b empty.columns))
@@ -122,9 +105,7 @@ module _ (d : Document) (defined : Tables) (r : PassState) (lines : List Place) 
   continues from = item_goes_on d.options r.tree empty.place empty.outer top_is.0 empty.columns from empty.spine top_is.1
 
   zero_is : top_without_indent r.tree ≡ with_body_at r.tree empty.place (item_body top_is.0 0)
-  zero_is =
-      ap (λ (s : List TreeIndex). body_without_indent r.tree (option_and_then (λ (ix : TreeIndex). body_at r.tree.nodes ix.0) (slice_get s 0))) empty.spine
-      ∙ rw top_is.1 (without_indent_is r.tree empty.place empty.outer top_is.0 empty.columns empty.spine)
+  zero_is = grind (arith, top_is, without_indent_is)
 
   zero_goes_on : CanGoOn (path_of d.options (top_without_indent r.tree)) (Blanks e)
   zero_goes_on =

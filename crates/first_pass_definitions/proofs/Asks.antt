@@ -1,43 +1,35 @@
 -- When reading a definition needs memory.
 use Rattle.std.proofs.Common.{◌≡◌, ◌⊎◌, inl, inr, ℕ, zero, suc, ◌+◌, ◌<◌, Bool, true, false, List, drop, Option, Some, None, Result, is_some, IsSomeAnd}
-use Rattle.std.proofs.Common.{IsCharBoundary, refl, sym, ap, subst, ◌∙◌, arith, Bor, drop-drop, option_map, option_and_then}
+use Rattle.std.proofs.Common.{IsCharBoundary, sym, ap, subst, ◌∙◌, arith, Bor, drop-drop, option_map, option_and_then}
 use Rattle.first_pass_grammar.proofs.Common.{AllocError, or_right, colon, left_bracket, label_at, option_map_or, begins, eol_len, line_rest, unescaped_upto}
-use Rattle.first_pass_grammar.proofs.Common.{destination_at, gfm_footnotes, begins_footnote_mark, Context, title_prefix, space_at, target_at}
-use Rattle.first_pass_grammar.proofs.Common.{deepest_nesting, prefix_crossed, reference_definition_at, LinkDef, CowStr, some_mapped}
+use Rattle.first_pass_grammar.proofs.Common.{destination_at, gfm_footnotes, begins_footnote_mark, Context, title_prefix, target_at, deepest_nesting}
+use Rattle.first_pass_grammar.proofs.Common.{prefix_crossed, reference_definition_at, LinkDef, CowStr, some_mapped}
 use Rattle.first_pass_links.specs.Labels.{CanErr, ErrsAfter, IsRewritten, HasNoBracket}
 use Rattle.first_pass_links.proofs.Labels.{place_past}
 use Rattle.first_pass_kinds.specs.Memory.{line_may_head_table}
 use Rattle.first_pass_labels.specs.declared.label_table.LinkPlaces.{LinkPlaces}
 use Rattle.first_pass_definitions.specs.Reading.{stops_title_line, goes_on_at}
-use Rattle.first_pass_definitions.proofs.Targets.{IsReferenceAnswer, IsDest, space_found, drop_to}
-use Rattle.first_pass_definitions.proofs.Targets.{TargetFound}
-use Rattle.first_pass_definitions.proofs.Titles.{IsTextAnswer}
-use Rattle.first_pass_definitions.proofs.Spaces.{shifted}
+use Rattle.first_pass_definitions.proofs.Targets.{IsReferenceAnswer, DestRead, LabelRead, drop_to, TargetFound}
 use Rattle.first_pass_definitions.proofs.OptionFacts.{and_some, matched}
 use Rattle.first_pass_definitions.specs.Memory.{LabelAsks, TargetAsks, ReferenceAsks, AfterAsks, PartsAsk, line_asks, text_asks, after_asks, MeetsTable}
 
 further_asks : (around : Context) (bs : List ℕ) (n next : ℕ) (o : Option ℕ)
     → option_and_then (λ e. option_map (λ k. n + e + k) (title_prefix around (drop (n + e) bs))) o ≡ Some next
     → option_map_or (λ e. line_asks around (drop (n + e) bs)) o false ≡ true
-further_asks around bs n next o h =
-    let e = and_some (λ e. option_map (λ k. n + e + k) (title_prefix around (drop (n + e) bs))) o next h in
-    let k = some_mapped (λ k. n + e.0 + k) (title_prefix around (drop (n + e.0) bs)) next e.2 in
-    rw e.1 (rw k.1 refl)
+further_asks around bs n next o h = grind (arith, and_some, some_mapped)
 
-table_asks : (around : Context) (bs : List ℕ) (n : ℕ) (o : Option ℕ)
+pub table_asks : (around : Context) (bs : List ℕ) (n : ℕ) (o : Option ℕ)
     → option_map_or (λ e. line_may_head_table around (line_rest (drop (n + e) bs))) o false ≡ true
     → option_map_or (λ e. line_asks around (drop (n + e) bs)) o false ≡ true
 table_asks around bs n None h = h
 table_asks around bs n (Some e) h = or_right (is_some (title_prefix around (drop (n + e) bs))) (line_may_head_table around (line_rest (drop (n + e) bs))) h
 
 -- A line ending at which a title may need memory follows its first line. After a later line, it is known already.
-asks_at : (around : Context) (close from stop : ℕ) (bs : List ℕ)
+pub asks_at : (around : Context) (close from stop : ℕ) (bs : List ℕ)
     → (0 < from → text_asks around close bs ≡ true) → stop ≡ from + unescaped_upto (stops_title_line close) 0 (drop from bs)
     → option_map_or (λ e. line_asks around (drop (stop + e) bs)) (eol_len (drop stop bs)) false ≡ true → text_asks around close bs ≡ true
 unfolding text_asks
-asks_at around close zero stop bs f e h =
-    let first : stop ≡ unescaped_upto (stops_title_line close) 0 bs = omega (arith, e) in
-    subst (λ (m : ℕ). option_map_or (λ k. line_asks around (drop (m + k) bs)) (eol_len (drop m bs)) false ≡ true) first h
+asks_at around close zero stop bs f e h = grind arith
 asks_at around close (suc from) stop bs f e h = f (omega arith)
 
 -- the title continues after its first line
@@ -46,13 +38,6 @@ pub goes_asks : (around : Context) (close from stop next : ℕ) (bs : List ℕ)
     → goes_on_at (title_prefix around) bs stop ≡ Some next → text_asks around close bs ≡ true
 goes_asks around close from stop next bs f e h =
     asks_at around close from stop bs f e (further_asks around bs stop next (eol_len (drop stop bs)) h)
-
--- or a line follows that may head a table
-pub meets_asks : (around : Context) (close from stop : ℕ) (bs : List ℕ)
-    → (0 < from → text_asks around close bs ≡ true) → stop ≡ from + unescaped_upto (stops_title_line close) 0 (drop from bs)
-    → option_map_or (λ e. line_may_head_table around (line_rest (drop (stop + e) bs))) (eol_len (drop stop bs)) false ≡ true
-    → text_asks around close bs ≡ true
-meets_asks around close from stop bs f e h = asks_at around close from stop bs f e (table_asks around bs stop (eol_len (drop stop bs)) h)
 
 -- a label
 pub label_asks : (around : Context) (prefix : List ℕ → Option ℕ) (t u : Bool) (bs : List ℕ) (post : Bor (List ℕ) → Result (Option ℕ) AllocError → Type 0)
@@ -79,21 +64,17 @@ place_from text following bs start at p is b e =
     (place_past text start at p.0 (subst (λ ys. IsCharBoundary ys at) is b), e ∙ ap (drop at) is ∙ drop-drop at start text)
 
 -- a target step by step
-pub dest_asks : (around : Context) (text : List ℕ) (start at lines n : ℕ) (b : Bor (List ℕ))
-    → Some (at, lines) ≡ shifted start (space_at around (drop start text))
-    → IsDest (destination_at deepest_nesting (drop at text)) (Some (n, b)) → after_asks around (drop (at + n) text) ≡ true
-    → AfterAsks around (drop start text)
-dest_asks around text start at lines n b h k a =
-    let s = space_found (space_at around (drop start text)) start at lines h in
-    let d = matched _ (destination_at deepest_nesting (drop at text)) k in
-    let size = d.says.0 in
-    let there = s.2 in
+pub dest_asks : {around : Context} {text : List ℕ} {start at n : ℕ} {b : Bor (List ℕ)} → DestRead around text start at n b
+    → after_asks around (drop (at + n) text) ≡ true → AfterAsks around (drop start text)
+dest_asks {around} {text} {start} {at} {n} {b} d a =
+    let size = d.size in
+    let there = d.there in
     record {
-      space = s.0;
-      space_is = s.1;
-      dest = d.value;
-      dest_is = ap (destination_at deepest_nesting) (drop_to text start s.0.0 at there) ∙ d.is;
-      asks = ap (after_asks around) (drop_to text start (s.0.0 + d.value.0) (at + n) (omega arith)) ∙ a;
+      space = d.space;
+      space_is = d.space_is;
+      dest = d.dest;
+      dest_is = ap (destination_at deepest_nesting) (drop_to text start d.space.0 at there) ∙ d.dest_is;
+      asks = ap (after_asks around) (drop_to text start (d.space.0 + d.dest.0) (at + n) (omega arith)) ∙ a;
     }
 
 pub parts_ask : (around : Context) (text : List ℕ) (start : ℕ) (to : ℕ × LinkPlaces) (b : Bor (List ℕ)) (title : Option CowStr) (t u : Bool)
@@ -106,24 +87,15 @@ pub ask_label : (t : Bool) (around : Context) (text : List ℕ) (start : ℕ)
     → begins left_bracket (drop start text) ≡ true → LabelAsks around t (drop (start + 1) text) → ReferenceAsks t around (drop start text)
 ask_label t around text start b a = (b, inl (subst (LabelAsks around t) (sym (drop-drop 1 start text)) a))
 
-pub ask_target : (t : Bool) (around : Context) (text : List ℕ) (start n : ℕ) (label : CowStr) → begins left_bracket (drop start text) ≡ true
-    → IsTextAnswer (label_at (prefix_crossed true around) t (drop (start + 1) text)) (Some (n, label)) → begins colon (drop (start + 1 + n) text) ≡ true
-    → TargetAsks t around (drop (start + 1 + n + 1) text) → ReferenceAsks t around (drop start text)
-ask_target t around text start n label b h k a =
-    let l = matched _ (label_at (prefix_crossed true around) t (drop (start + 1) text)) h in
-    let bs = drop 1 (drop start text) in
-    let there : bs ≡ drop (start + 1) text = drop-drop 1 start text in
-    let same = l.says.0 in
-    let at_colon = ap (drop l.value.0) there ∙ drop_to text (start + 1) l.value.0 (start + 1 + n) (omega arith) in
-    let target = ap (drop (l.value.0 + 1)) there ∙ drop_to text (start + 1) (l.value.0 + 1) (start + 1 + n + 1) (omega arith) in (
-      b,
-      inr (inl (
-        l.value,
-        ap (label_at (prefix_crossed true around) t) there ∙ l.is,
-        ap (begins colon) at_colon ∙ k,
-        subst (TargetAsks t around) (sym target) a,
-      )),
-    )
+pub ask_target : {t : Bool} {around : Context} {text : List ℕ} {start n : ℕ} {label : CowStr} → LabelRead t around text start n label
+    → begins colon (drop (start + 1 + n) text) ≡ true → TargetAsks t around (drop (start + 1 + n + 1) text) → ReferenceAsks t around (drop start text)
+ask_target {t} {around} {text} {start} {n} {label} l k a =
+    let there : drop 1 (drop start text) ≡ drop (start + 1) text = drop-drop 1 start text in
+    let same = l.size in
+    let at_colon = ap (drop l.found.0) there ∙ drop_to text (start + 1) l.found.0 (start + 1 + n) (omega arith) in
+    let target = ap (drop (l.found.0 + 1)) there ∙ drop_to text (start + 1) (l.found.0 + 1) (start + 1 + n + 1) (omega arith) in
+    let is = ap (label_at (prefix_crossed true around) t) there ∙ l.is in
+    (l.bracket, inr (inl (l.found, is, ap (begins colon) at_colon ∙ k, subst (TargetAsks t around) (sym target) a)))
 
 pub ask_key : (t : Bool) (around : Context) (text : List ℕ) (start : ℕ) (found : ℕ × CowStr × LinkDef) → begins left_bracket (drop start text) ≡ true
     → IsReferenceAnswer t start (reference_definition_at t around (drop start text)) (Some found) → ReferenceAsks t around (drop start text)

@@ -1,8 +1,6 @@
 pub mod OptionFacts
 pub mod Titles
 pub mod Spaces
-pub mod Places
 pub mod Targets
 pub mod Asks
 pub mod ReferenceFacts
-pub mod Parts

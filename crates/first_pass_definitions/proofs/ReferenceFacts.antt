@@ -1,22 +1,21 @@
 -- The ends of definitions.
 use Rattle.std.proofs.Common.{◌≡◌, inl, inr, ℕ, zero, suc, ◌+◌, ◌-◌, ◌<◌, ◌==◌, ◌&&◌, nat_lt, Bool, true, false, List, [], ◌∷◌, take, drop, slice_index}
-use Rattle.std.proofs.Common.{Option, Some, None, is_some, refl, sym, ap, subst, ◌∙◌, arith, if◌then◌else◌, eqb-true, option_map, option_and_then}
-use Rattle.std.proofs.Common.{drop-drop, get_or-drop}
-use Rattle.first_pass_grammar.proofs.Common.{and_parts, nat_tests, option_map_or, cond_some, same_Some, line_feed, carriage_return, colon, less_than}
-use Rattle.first_pass_grammar.proofs.Common.{greater_than, left_bracket, right_bracket, is_line_end, ends_line, begins, blank_len, unescaped_upto}
+use Rattle.std.proofs.Common.{Option, Some, None, is_some, refl, sym, ap, subst, ◌∙◌, arith, if◌then◌else◌, eqb-true, option_map, option_and_then, drop-drop}
+use Rattle.std.proofs.Common.{get_or-drop}
+use Rattle.first_pass_grammar.proofs.Common.{and_parts, cond_both, nat_tests, option_map_or, cond_some, same_Some, line_feed, carriage_return, colon}
+use Rattle.first_pass_grammar.proofs.Common.{less_than, left_bracket, right_bracket, is_line_end, ends_line, begins, blank_len, unescaped_upto}
 use Rattle.first_pass_grammar.proofs.Common.{destination_at, begins_escape, first_byte, joined, bytes_of, offsets_of, label_len, label_at, Context}
 use Rattle.first_pass_grammar.proofs.Common.{some_mapped, some_if, some_unless, prefix_crossed, space_at, title_end, title_text, title_prefix, title_at}
 use Rattle.first_pass_grammar.proofs.Common.{title_after, after_destination, deepest_nesting, Target, target_at, LinkReference, reference_definition_at}
 use Rattle.std.specs.Bool.{⊤}
-use Rattle.first_pass_links.specs.Destinations.{ends_bracketed, bracketed_at, ends_run, longer, if_closed, closes_none, nesting_after}
-use Rattle.first_pass_links.specs.Destinations.{bare_len, unbracketed}
+use Rattle.first_pass_links.specs.Destinations.{bracketed_at, ends_run, longer, closes_none, nesting_after, bare_len, unbracketed}
 use Rattle.first_pass_links.specs.Labels.{is_label, as_read}
+use Rattle.first_pass_links.proofs.Destinations.{first-drop}
+use Rattle.first_pass_links.proofs.Labels.{joined_by}
 use Rattle.first_pass_definitions.proofs.OptionFacts.{and_some, either_some}
 use Rattle.first_pass_definitions.proofs.Titles.{closes-plain, title_begins}
-use Rattle.first_pass_grammar.specs.Definitions.{with_line_feeds, ends_title}
-use Rattle.first_pass_grammar.specs.Definitions.{alone_after, title_beyond, target_of}
-use Rattle.first_pass_grammar.specs.Definitions.{target_from}
-use Rattle.first_pass_grammar.specs.Definitions.{target_beyond, reference_definition_of, reference_definition_after}
+use Rattle.first_pass_grammar.specs.Definitions.{with_line_feeds, ends_title, alone_after, title_beyond, target_of, target_from, target_beyond}
+use Rattle.first_pass_grammar.specs.Definitions.{reference_definition_of, reference_definition_after}
 
 -- the rest of a line is blank from there on
 abbrev BlankAt : List ℕ → ℕ → Type 0
@@ -71,33 +70,20 @@ run_plain : (deepest nesting m : ℕ) (bs : List ℕ) → Inside m bs → RunPla
 unfolding bare_len
 run_plain deepest nesting m [] p = λ k i h l. refl
 run_plain deepest nesting zero (b ∷ bs) p =
-    by (ends_run b) (begins_escape (b ∷ bs)) (closes_none b nesting) (nat_lt deepest (nesting_after b nesting)) refl refl
-    (λ e. run_plain deepest nesting 1 bs (escaped_plain b bs e)) (run_plain deepest (nesting_after b nesting) 0 bs tt)
-  where
-    by : (e x c d : Bool) → ends_run b ≡ e → begins_escape (b ∷ bs) ≡ x → (begins_escape (b ∷ bs) ≡ true → RunPlain deepest nesting 1 bs)
-        → RunPlain deepest (nesting_after b nesting) 0 bs → ArePlain (if e then if_closed nesting
-        else (if x then longer 1 (bare_len deepest nesting 1 bs)
-        else (if c then Some 0
-        else (if d then None
-        else longer 1 (bare_len deepest (nesting_after b nesting) 0 bs))))) (b ∷ bs)
-    by true x c d h g p q = λ k i f l. (let e = (cond_some (nesting == 0) 0 k f).1 in absurd (omega arith))
-    by false true c d h g p q = one_more (bare_len deepest nesting 1 bs) b bs (grind (arith, nat_tests, h)) (p g)
-    by false false true d h g p q = λ k i f l. (let e : 0 ≡ k = same_Some 0 k f in absurd (omega arith))
-    by false false false true h g p q = λ k i f l. cc
-    by false false false false h g p q = one_more (bare_len deepest (nesting_after b nesting) 0 bs) b bs (grind (arith, nat_tests, h)) q
+    let P : Option ℕ → Type 0 = λ o. ArePlain o (b ∷ bs) in
+    cond_both (ends_run b) _ _ P (λ h k i f l. let e = (cond_some (nesting == 0) 0 k f).1 in absurd (omega arith))
+    (λ h. let other : is_line_end b ≡ false = grind (arith, nat_tests, h) in
+    cond_both (begins_escape (b ∷ bs)) _ _ P (λ g. one_more _ b bs other (run_plain deepest nesting 1 bs (escaped_plain b bs g)))
+    (λ _. cond_both (closes_none b nesting) _ _ P (λ _ k i f l. let e : 0 ≡ k = same_Some 0 k f in absurd (omega arith))
+    (λ _. cond_both (nat_lt deepest (nesting_after b nesting)) _ _ P (λ _ k i f l. absurd cc)
+    (λ _. one_more _ b bs other (run_plain deepest (nesting_after b nesting) 0 bs tt)))))
 run_plain deepest nesting (suc zero) (b ∷ bs) p = one_more (bare_len deepest nesting 0 bs) b bs p (run_plain deepest nesting 0 bs tt)
 run_plain deepest nesting (suc (suc m)) (b ∷ bs) p = absurd p
 
 -- A destination has a byte, and its last one is no line ending.
 bracket_last : (bs : List ℕ) (d : ℕ × List ℕ) → bracketed_at (drop 1 bs) ≡ Some d → HasLast bs d.0
 unfolding bracketed_at
-bracket_last bs d h =
-    let n = unescaped_upto ends_bracketed 0 (drop 1 bs) in
-    let p = cond_some (begins greater_than (drop n (drop 1 bs))) (n + 2, take n (drop 1 bs)) d h in
-    let e : n + 2 ≡ d.0 = ap (λ (q : ℕ × List ℕ). q.0) p.1 in
-    let f = first_byte greater_than bs (1 + n) (ap (begins greater_than) (sym (drop-drop n 1 bs)) ∙ p.0) in
-    let i : 1 + n ≡ d.0 - 1 = omega arith in
-    (omega arith, ap (λ k. is_line_end (slice_index bs k)) (sym i) ∙ ap is_line_end f.1)
+bracket_last bs d h = grind (arith, cond_some, first_byte)
 
 run_last : (deepest : ℕ) (bs : List ℕ) (d : ℕ × List ℕ) → option_and_then (unbracketed bs) (bare_len deepest 0 0 bs) ≡ Some d → HasLast bs d.0
 run_last deepest bs d h =
@@ -121,23 +107,16 @@ CloseAt text close [] = ⊤
 CloseAt text close (c ∷ cs) = (c.1 ≡ close → slice_index text c.0 ≡ close) × CloseAt text close cs
 
 first_at : (text : List ℕ) (at b : ℕ) (bs : List ℕ) → drop at text ≡ b ∷ bs → slice_index text at ≡ b
-first_at text at b bs e =
-    let z : at + 0 ≡ at = omega arith in
-    ap (slice_index text) (sym z) ∙ sym (get_or-drop at text 0 0) ∙ ap (λ xs. slice_index xs 0) e
+first_at text at b bs e = sym (first-drop at text) ∙ ap (λ xs. slice_index xs 0) e
 
 joined_close : (prefix : List ℕ → Option ℕ) (text : List ℕ) (close at n : ℕ) (bs : List ℕ) → drop at text ≡ bs
     → CloseAt text close (joined prefix at n bs)
 unfolding joined
 joined_close prefix text close at n [] e = tt
 joined_close prefix text close at zero (b ∷ bs) e =
-    by (ends_line b bs) (prefix bs) (λ n. joined_close prefix text close (at + 1) n bs (sym (drop-drop 1 at text) ∙ ap (drop 1) e))
-  where
-    by : (t : Bool) (o : Option ℕ) → ((n : ℕ) → CloseAt text close (joined prefix (at + 1) n bs))
-        → CloseAt text close
-        (if t then option_map_or (λ n. (at, b) ∷ joined prefix (at + 1) n bs) o [] else (at, b) ∷ joined prefix (at + 1) 0 bs)
-    by false o f = (λ same. first_at text at b bs e ∙ same, f 0)
-    by true (Some n) f = (λ same. first_at text at b bs e ∙ same, f n)
-    by true None f = tt
+    let here : b ≡ close → slice_index text at ≡ close = λ same. first_at text at b bs e ∙ same in
+    let more = λ (n : ℕ). joined_close prefix text close (at + 1) n bs (sym (drop-drop 1 at text) ∙ ap (drop 1) e) in
+    cond_both (ends_line b bs) _ _ (CloseAt text close) (λ _. joined_by (CloseAt text close) _ (prefix bs) (λ n. (here, more n)) tt) (λ _. (here, more 0))
 joined_close prefix text close at (suc n) (b ∷ bs) e =
     joined_close prefix text close (at + 1) n bs (sym (drop-drop 1 at text) ∙ ap (drop 1) e)
 
@@ -145,13 +124,10 @@ fed_close : (text : List ℕ) (close : ℕ) (cs : List (ℕ × ℕ)) → (line_f
     → CloseAt text close (with_line_feeds cs)
 unfolding with_line_feeds
 fed_close text close [] f e = tt
-fed_close text close (c ∷ cs) f e = by (c.1 == carriage_return) (begins line_feed (bytes_of cs)) (fed_close text close cs f e.1)
-  where
-    by : (t u : Bool) → CloseAt text close (with_line_feeds cs) → CloseAt text close
-        (if t then (if u then with_line_feeds cs else (c.0, line_feed) ∷ with_line_feeds cs) else c ∷ with_line_feeds cs)
-    by false u r = (e.0, r)
-    by true true r = r
-    by true false r = (λ same. absurd (f same), r)
+fed_close text close (c ∷ cs) f e =
+    let more = fed_close text close cs f e.1 in
+    cond_both (c.1 == carriage_return) _ _ (CloseAt text close)
+    (λ _. cond_both (begins line_feed (bytes_of cs)) _ _ (CloseAt text close) (λ _. more) (λ _. ((λ same. absurd (f same)), more))) (λ _. (e.0, more))
 
 -- The offset at which the closing byte is found has that byte in the text.
 close_at : (text : List ℕ) (close : ℕ) (cs : List (ℕ × ℕ)) (n : ℕ) → CloseAt text close cs → begins close (drop n (bytes_of cs)) ≡ true

@@ -1,19 +1,21 @@
 -- The parts of a definition after its colon, and the definition.
 use Rattle.std.proofs.Common.{◌≡◌, ℕ, zero, suc, ◌+◌, ◌-◌, ◌==◌, ◌<◌, Bool, true, false, List, drop, Option, Some, None, is_some, MatchOption, IsSomeAnd}
 use Rattle.std.proofs.Common.{IsUtf8, IsCharBoundary, refl, sym, ap, subst, ◌∙◌, arith, if◌then◌else◌, Bor, option_map, option_and_then, drop-drop}
-use Rattle.first_pass_grammar.proofs.Common.{option_map_or, nat_tests, IsCharBoundary-after_ascii, colon, left_bracket, ascii_end, CowStr, text_of, LinkDef}
-use Rattle.first_pass_grammar.proofs.Common.{begins, blank_len, destination_at, label_at, first_byte, Context, prefix_crossed, space_at, title_at}
-use Rattle.first_pass_grammar.proofs.Common.{title_after, after_destination, deepest_nesting, Target, target_at, LinkReference, reference_definition_at}
+use Rattle.std.proofs.Common.{slice_index, get_or-drop}
+use Rattle.first_pass_grammar.proofs.Common.{IsCharBoundary-before_ascii, right_bracket, option_map_or, nat_tests, IsCharBoundary-after_ascii, colon}
+use Rattle.first_pass_grammar.proofs.Common.{left_bracket, ascii_end, CowStr, text_of, LinkDef, begins, blank_len, destination_at, label_at, first_byte}
+use Rattle.first_pass_grammar.proofs.Common.{Context, prefix_crossed, space_at, title_at, title_after, after_destination, deepest_nesting, Target, target_at}
+use Rattle.first_pass_grammar.proofs.Common.{LinkReference, reference_definition_at}
 use Rattle.std.proofs.lemmas.Option.{some_pair_parts}
 use Rattle.first_pass_labels.specs.declared.label_table.LinkPlaces.{LinkPlaces}
-use Rattle.first_pass_grammar.specs.Definitions.{target_of, target_from, reference_definition_of, reference_definition_after}
-use Rattle.first_pass_grammar.specs.Definitions.{title_distance}
+use Rattle.first_pass_grammar.specs.Definitions.{target_of, target_from, reference_definition_of, reference_definition_after, title_distance}
 use Rattle.first_pass_grammar.specs.LinkRuns.{places_of}
 use Rattle.first_pass_definitions.proofs.Spaces.{shifted}
 use Rattle.first_pass_definitions.proofs.Titles.{IsTextAnswer}
 use Rattle.first_pass_definitions.proofs.OptionFacts.{matched, unmatched}
 use Rattle.first_pass_definitions.specs.Reading.{IsReadTitle}
-use Rattle.first_pass_definitions.specs.Found.{IsUnescaped, HasTitle, IsDefinition, IsTarget, IsReference}
+use Rattle.first_pass_definitions.specs.Found.{IsUnescaped, HasTitle, IsTarget, IsReference, AreInOrder, HasParts}
+use Rattle.first_pass_definitions.proofs.ReferenceFacts.{label_last}
 
 -- results for the text after a destination
 abbrev pub IsFurther : Context → List ℕ → ℕ → Option (ℕ × Option (List ℕ)) → Option (ℕ × ℕ × Option CowStr) → Type 0
@@ -47,18 +49,7 @@ pub title_spaced : (around : Context) (text : List ℕ) (at start k len : ℕ) (
     → (start ≡ at + white_len (space_at around (drop at text)))
     × (title_after around (drop at text)
     ≡ (if is_some (blank_len (drop (start + len) text)) then Some (start - at + len, text_of title) else None))
-title_spaced around text at start k len title is apart r =
-    let s = space_found (space_at around (drop at text)) at start k is in
-    let there : start ≡ at + s.0.0 = s.2 in
-    let t = matched _ (title_at around (drop start text)) r in
-    let size : len ≡ t.value.0 = t.says.0 in
-    let here = ap (title_at around) (drop_to text at s.0.0 start there) ∙ t.is in
-    let rest = drop_to text at (s.0.0 + t.value.0) (start + len) (omega arith) in
-    let e : s.0.0 + t.value.0 ≡ start - at + len = omega arith in (
-      rw s.1 there,
-      rw s.1 (rw (none_at s.0.0 start at there apart) (rw here (rw rest (rw e
-          (ap (λ (xs : List ℕ). if is_some (blank_len (drop (start + len) text)) then Some (start - at + len, xs) else None) (sym t.says.1)))))),
-    )
+title_spaced around text at start k len title is apart r = grind (arith, space_found, drop_to, none_at)
 
 -- results for destinations
 abbrev pub IsDest : Option (ℕ × List ℕ) → Option (ℕ × Bor (List ℕ)) → Type 0
@@ -68,8 +59,7 @@ IsDest o answer = MatchOption o (answer ≡ None) (λ dest. IsSomeAnd answer (λ
 at_dest : (around : Context) (text : List ℕ) (start at : ℕ) (s : ℕ × ℕ) → space_at around (drop start text) ≡ Some s → at ≡ start + s.0
     → target_at around (drop start text) ≡ option_and_then (target_from around s.0 (drop at text)) (destination_at deepest_nesting (drop at text))
 unfolding target_at
-at_dest around text start at s e h =
-    rw e (ap (λ xs. option_and_then (target_from around s.0 xs) (destination_at deepest_nesting xs)) (drop_to text start s.0 at h))
+at_dest around text start at s e h = grind (arith, drop_to)
 
 pub no_dest : (around : Context) (text : List ℕ) (start at lines : ℕ) → Some (at, lines) ≡ shifted start (space_at around (drop start text))
     → IsDest (destination_at deepest_nesting (drop at text)) None → target_at around (drop start text) ≡ None
@@ -78,21 +68,36 @@ no_dest around text start at lines h k =
     at_dest around text start at s.0 s.1 s.2
     ∙ ap (option_and_then (target_from around s.0.0 (drop at text))) (unmatched _ (destination_at deepest_nesting (drop at text)) k)
 
-after_dest : (around : Context) (text : List ℕ) (start at n : ℕ) (s : ℕ × ℕ) (d : ℕ × List ℕ) → space_at around (drop start text) ≡ Some s
-    → at ≡ start + s.0 → destination_at deepest_nesting (drop at text) ≡ Some d → n ≡ d.0
-    → target_at around (drop start text) ≡ option_map (target_of around (drop (at + n) text) s.0 d) (after_destination around (drop (at + n) text))
-after_dest around text start at n s d e h k l =
-    at_dest around text start at s e h ∙ ap (option_and_then (target_from around s.0 (drop at text))) k
-    ∙ ap (λ xs. option_map (target_of around xs s.0 d) (after_destination around xs)) (drop-drop d.0 at text ∙ ap (λ m. drop (at + m) text) (sym l))
+-- a destination of `n` bytes is at an offset, after the white space of a target
+pub record DestRead (around : Context) (text : List ℕ) (start at n : ℕ) (b : Bor (List ℕ)) : Type 0 where
+  pub space : ℕ × ℕ
+  pub space_is : space_at around (drop start text) ≡ Some space
+  pub there : at ≡ start + space.0
+  pub dest : ℕ × List ℕ
+  pub dest_is : destination_at deepest_nesting (drop at text) ≡ Some dest
+  pub size : n ≡ dest.0
+  pub bytes : b.now ≡ dest.1
 
-pub no_further : (around : Context) (text : List ℕ) (start at lines n : ℕ) (b : Bor (List ℕ))
+pub dest_read : (around : Context) (text : List ℕ) (start at lines n : ℕ) (b : Bor (List ℕ))
     → Some (at, lines) ≡ shifted start (space_at around (drop start text)) → IsDest (destination_at deepest_nesting (drop at text)) (Some (n, b))
-    → IsFurther around (drop (at + n) text) (at + n) (after_destination around (drop (at + n) text)) None → target_at around (drop start text) ≡ None
-no_further around text start at lines n b h k f =
+    → DestRead around text start at n b
+dest_read around text start at lines n b h k =
     let s = space_found (space_at around (drop start text)) start at lines h in
     let d = matched _ (destination_at deepest_nesting (drop at text)) k in
-    after_dest around text start at n s.0 d.value s.1 s.2 d.is d.says.0
-    ∙ ap (option_map (target_of around (drop (at + n) text) s.0.0 d.value)) (unmatched _ (after_destination around (drop (at + n) text)) f)
+    record { space = s.0; space_is = s.1; there = s.2; dest = d.value; dest_is = d.is; size = d.says.0; bytes = d.says.1 }
+
+after_dest : {around : Context} {text : List ℕ} {start at n : ℕ} {b : Bor (List ℕ)} (d : DestRead around text start at n b)
+    → target_at around (drop start text)
+    ≡ option_map (target_of around (drop (at + n) text) d.space.0 d.dest) (after_destination around (drop (at + n) text))
+after_dest {around} {text} {start} {at} {n} {b} d =
+    at_dest around text start at d.space d.space_is d.there ∙ ap (option_and_then (target_from around d.space.0 (drop at text))) d.dest_is
+    ∙ ap (λ xs. option_map (target_of around xs d.space.0 d.dest) (after_destination around xs)) (drop_to text at d.dest.0 (at + n) (ap (λ m. at + m) d.size))
+
+pub no_further : {around : Context} {text : List ℕ} {start at n : ℕ} {b : Bor (List ℕ)} → DestRead around text start at n b
+    → IsFurther around (drop (at + n) text) (at + n) (after_destination around (drop (at + n) text)) None → target_at around (drop start text) ≡ None
+no_further {around} {text} {start} {at} {n} {b} d f =
+    after_dest d
+    ∙ ap (option_map (target_of around (drop (at + n) text) d.space.0 d.dest)) (unmatched _ (after_destination around (drop (at + n) text)) f)
 
 -- places by the offsets of the destination and the title
 abbrev pub placed : ℕ → ℕ → ℕ → ℕ → LinkPlaces
@@ -101,10 +106,6 @@ placed start at following title = record { label_end = start - 2; dest_start = a
 pub placed_by : (start at following title n : ℕ) → n ≡ start - 2
     → ◌≡◌ {A = LinkPlaces} (record { label_end = n; dest_start = at; dest_end = following; title_start = title }) (placed start at following title)
 placed_by start at following title n h = cc
-
-placed_same : (start at at' following following' title title' : ℕ) → at ≡ at' → following ≡ following' → title ≡ title'
-    → placed start at following title ≡ placed start at' following' title'
-placed_same start at at' following following' title title' h k l = cc
 
 -- a target that is found, where it ends and the places of its parts
 pub record TargetFound (around : Context) (text : List ℕ) (start : ℕ) (to : ℕ × LinkPlaces) (b : Bor (List ℕ)) (title : Option CowStr) : Type 0 where
@@ -116,29 +117,27 @@ pub record TargetFound (around : Context) (text : List ℕ) (start : ℕ) (to : 
   pub dest_is : b.now ≡ target.dest
   pub title_is : IsReadTitle target.title title
 
-pub target_found : (around : Context) (text : List ℕ) (start at lines n : ℕ) (b : Bor (List ℕ)) (found : ℕ × ℕ × Option CowStr)
-    → Some (at, lines) ≡ shifted start (space_at around (drop start text))
-    → IsDest (destination_at deepest_nesting (drop at text)) (Some (n, b))
+pub target_found : {around : Context} {text : List ℕ} {start at n : ℕ} {b : Bor (List ℕ)} (found : ℕ × ℕ × Option CowStr) → DestRead around text start at n b
     → IsFurther around (drop (at + n) text) (at + n) (after_destination around (drop (at + n) text)) (Some found)
     → TargetFound around text start (found.1, placed start at (at + n) found.0) b found.2
-target_found around text start at lines n b (from, e, title) h k f =
-    let s = space_found (space_at around (drop start text)) start at lines h in
-    let d = matched _ (destination_at deepest_nesting (drop at text)) k in
+target_found {around} {text} {start} {at} {n} {b} (from, e, title) d f =
     let following = drop (at + n) text in
     let r = matched _ (after_destination around following) f in
-    let there = s.2 in
-    let size = d.says.0 in
+    let there = d.there in
+    let size = d.size in
     let more = r.says.0 in
     let gap = r.says.2 in
-    let past : ℕ = s.0.0 + d.value.0 in
+    let past : ℕ = d.space.0 + d.dest.0 in
     let far : ℕ = title_distance around following r.value.1 in
+    let end_is : at + n ≡ start + past = omega arith in
+    let title_is : from ≡ start + (past + far) = omega arith in
     record {
       size = past + r.value.0;
-      target = record { dest = d.value.1; title = r.value.1; dest_start = s.0.0; dest_end = past; title_start = past + far };
-      is = after_dest around text start at n s.0 d.value s.1 s.2 d.is d.says.0 ∙ ap (option_map (target_of around following s.0.0 d.value)) r.is;
+      target = record { dest = d.dest.1; title = r.value.1; dest_start = d.space.0; dest_end = past; title_start = past + far };
+      is = after_dest d ∙ ap (option_map (target_of around following d.space.0 d.dest)) r.is;
       end_is = omega arith;
-      places_are = placed_same start at (start + s.0.0) (at + n) (start + past) from (start + (past + far)) there (omega arith) (omega arith);
-      dest_is = d.says.1;
+      places_are = rw (← there, ← end_is, ← title_is) refl;
+      dest_is = d.bytes;
       title_is = r.says.1;
     }
 
@@ -150,18 +149,7 @@ pub is_target : (around : Context) (text : List ℕ) (start from : ℕ) (b : Bor
     → TargetFound around text start (found.span.«end», found.places) b title → IsUnescaped in_table b.now found.dest
     → ((t : Option (List ℕ)) → IsReadTitle t title → HasTitle in_table t found.title) → found.span.start ≡ from
     → IsTargetAnswer in_table from start (target_at around (drop start text)) (Some (found.span.«end» - start, found))
-is_target around text start from b title in_table found t dest read h =
-    let i = t.end_is in
-    rw t.is (record {
-      size = omega arith;
-      definition = record {
-        dest = subst (λ xs. IsUnescaped in_table xs found.dest) t.dest_is dest;
-        title = read t.target.title t.title_is;
-        start_is = h;
-        end_is = t.end_is;
-        places_are = t.places_are;
-      };
-    })
+is_target around text start from b title in_table found t dest read h = grind arith
 
 -- the definition step by step
 pub no_bracket : (in_table : Bool) (around : Context) (bs : List ℕ) → begins left_bracket bs ≡ false → reference_definition_at in_table around bs ≡ None
@@ -178,38 +166,40 @@ at_label in_table around text start h =
 pub no_label : (in_table : Bool) (around : Context) (text : List ℕ) (start : ℕ) → begins left_bracket (drop start text) ≡ true
     → IsTextAnswer (label_at (prefix_crossed true around) in_table (drop (start + 1) text)) None
     → reference_definition_at in_table around (drop start text) ≡ None
-no_label in_table around text start h k =
-    at_label in_table around text start h ∙ ap (option_and_then (reference_definition_after around (drop (start + 1) text)))
-    (unmatched _ (label_at (prefix_crossed true around) in_table (drop (start + 1) text)) k)
+no_label in_table around text start h k = grind (arith, at_label, unmatched)
 
-colon_by : (t : Bool) (in_table : Bool) (around : Context) (text : List ℕ) (start n : ℕ) (l : ℕ × List ℕ) → begins left_bracket (drop start text) ≡ true
-    → label_at (prefix_crossed true around) in_table (drop (start + 1) text) ≡ Some l → n ≡ l.0
+-- a label of `n` bytes, with its `]`, is after the `[` at an offset
+pub record LabelRead (in_table : Bool) (around : Context) (text : List ℕ) (start n : ℕ) (label : CowStr) : Type 0 where
+  pub bracket : begins left_bracket (drop start text) ≡ true
+  pub found : ℕ × List ℕ
+  pub is : label_at (prefix_crossed true around) in_table (drop (start + 1) text) ≡ Some found
+  pub size : n ≡ found.0
+  pub text_is : text_of label ≡ found.1
+
+pub label_read : (in_table : Bool) (around : Context) (text : List ℕ) (start n : ℕ) (label : CowStr) → begins left_bracket (drop start text) ≡ true
+    → IsTextAnswer (label_at (prefix_crossed true around) in_table (drop (start + 1) text)) (Some (n, label)) → LabelRead in_table around text start n label
+label_read in_table around text start n label h k =
+    let l = matched _ (label_at (prefix_crossed true around) in_table (drop (start + 1) text)) k in
+    record { bracket = h; found = l.value; is = l.is; size = l.says.0; text_is = l.says.1 }
+
+-- the definition, by whether a colon follows the label
+pub colon_by : (t : Bool) {in_table : Bool} {around : Context} {text : List ℕ} {start n : ℕ} {label : CowStr} (l : LabelRead in_table around text start n label)
     → begins colon (drop (start + 1 + n) text) ≡ t
     → reference_definition_at in_table around (drop start text)
-    ≡ (if t then option_map (reference_definition_of l) (target_at around (drop (start + 1 + n + 1) text))
-    else None)
-colon_by t in_table around text start n l h k e f =
-    let a = drop_to text (start + 1) l.0 (start + 1 + n) (omega arith) in
-    let b = drop_to text (start + 1) (l.0 + 1) (start + 1 + n + 1) (omega arith) in
-    at_label in_table around text start h ∙ ap (option_and_then (reference_definition_after around (drop (start + 1) text))) k
+    ≡ (if t then option_map (reference_definition_of l.found) (target_at around (drop (start + 1 + n + 1) text)) else None)
+colon_by t {in_table} {around} {text} {start} {n} {label} l f =
+    let size = l.size in
+    let a = drop_to text (start + 1) l.found.0 (start + 1 + n) (omega arith) in
+    let b = drop_to text (start + 1) (l.found.0 + 1) (start + 1 + n + 1) (omega arith) in
+    at_label in_table around text start l.bracket ∙ ap (option_and_then (reference_definition_after around (drop (start + 1) text))) l.is
     ∙ rw (ap (begins colon) a ∙ f) (rw b refl)
 
-pub no_colon : (in_table : Bool) (around : Context) (text : List ℕ) (start n : ℕ) (label : CowStr) → begins left_bracket (drop start text) ≡ true
-    → IsTextAnswer (label_at (prefix_crossed true around) in_table (drop (start + 1) text)) (Some (n, label))
-    → begins colon (drop (start + 1 + n) text) ≡ false → reference_definition_at in_table around (drop start text) ≡ None
-no_colon in_table around text start n label h k f =
-    let l = matched _ (label_at (prefix_crossed true around) in_table (drop (start + 1) text)) k in
-    colon_by false in_table around text start n l.value h l.is l.says.0 f
-
-pub no_target : (in_table : Bool) (around : Context) (text : List ℕ) (start n : ℕ) (label : CowStr) → begins left_bracket (drop start text) ≡ true
-    → IsTextAnswer (label_at (prefix_crossed true around) in_table (drop (start + 1) text)) (Some (n, label))
+pub no_target : {in_table : Bool} {around : Context} {text : List ℕ} {start n : ℕ} {label : CowStr} → LabelRead in_table around text start n label
     → begins colon (drop (start + 1 + n) text) ≡ true
     → IsTargetAnswer in_table start (start + 1 + n + 1) (target_at around (drop (start + 1 + n + 1) text)) None
     → reference_definition_at in_table around (drop start text) ≡ None
-no_target in_table around text start n label h k f t =
-    let l = matched _ (label_at (prefix_crossed true around) in_table (drop (start + 1) text)) k in
-    colon_by true in_table around text start n l.value h l.is l.says.0 f
-    ∙ ap (option_map (reference_definition_of l.value)) (unmatched _ (target_at around (drop (start + 1 + n + 1) text)) t)
+no_target {in_table} {around} {text} {start} {n} {label} l f t =
+    colon_by true l f ∙ ap (option_map (reference_definition_of l.found)) (unmatched _ (target_at around (drop (start + 1 + n + 1) text)) t)
 
 abbrev pub IsReferenceAnswer : Bool → ℕ → Option LinkReference → Option (ℕ × CowStr × LinkDef) → Type 0
 IsReferenceAnswer in_table start o answer = MatchOption o (answer ≡ None) (λ reference. IsSomeAnd answer (IsReference in_table start reference))
@@ -218,29 +208,46 @@ reference_by : (in_table : Bool) (start n m : ℕ) (l : ℕ × List ℕ) (label 
     → text_of label ≡ l.1 → IsTargetAnswer in_table start (start + 1 + n + 1) o (Some (m, definition))
     → IsReferenceAnswer in_table start (option_map (reference_definition_of l) o) (Some (n + 2 + m, label, definition))
 reference_by in_table start n m l label definition None e h t = cc
-reference_by in_table start n m l label definition (Some t) e h found =
-    let s = found.size in
-    let i : start + 1 + n + 1 + t.0 ≡ start + (l.0 + 2 + t.0) = omega arith in
-    let at : start + 1 + n + 1 ≡ start + l.0 + 2 = omega arith in
-    let closes : start + 1 + n + 1 - 2 ≡ start + l.0 = omega arith in
-    let there = ap (λ k. places_of (start + 1 + n + 1 - 2) k t.1) at ∙ ap (λ k. places_of k (start + l.0 + 2) t.1) closes in
-    record {
-      size = omega arith;
-      label = h;
-      definition = subst (λ to. IsDefinition in_table t.1 (places_of (start + l.0) (start + l.0 + 2) t.1) start to definition) i
-          (subst (λ places. IsDefinition in_table t.1 places start (start + 1 + n + 1 + t.0) definition) there found.definition);
-    }
+reference_by in_table start n m l label definition (Some t) e h found = grind arith
 
-pub is_reference : (in_table : Bool) (around : Context) (text : List ℕ) (start n m : ℕ) (label : CowStr) (definition : LinkDef)
-    → begins left_bracket (drop start text) ≡ true
-    → IsTextAnswer (label_at (prefix_crossed true around) in_table (drop (start + 1) text)) (Some (n, label)) → begins colon (drop (start + 1 + n) text) ≡ true
+pub is_reference : {in_table : Bool} {around : Context} {text : List ℕ} {start n : ℕ} {label : CowStr} (m : ℕ) (definition : LinkDef)
+    → LabelRead in_table around text start n label → begins colon (drop (start + 1 + n) text) ≡ true
     → IsTargetAnswer in_table start (start + 1 + n + 1) (target_at around (drop (start + 1 + n + 1) text)) (Some (m, definition))
     → IsReferenceAnswer in_table start (reference_definition_at in_table around (drop start text)) (Some (n + 2 + m, label, definition))
-is_reference in_table around text start n m label definition h k f t =
-    let l = matched _ (label_at (prefix_crossed true around) in_table (drop (start + 1) text)) k in
-    let e = colon_by true in_table around text start n l.value h l.is l.says.0 f in
-    subst (λ o. IsReferenceAnswer in_table start o (Some (n + 2 + m, label, definition))) (sym e)
-    (reference_by in_table start n m l.value label definition (target_at around (drop (start + 1 + n + 1) text)) l.says.0 l.says.1 t)
+is_reference {in_table} {around} {text} {start} {n} {label} m definition l f t =
+    subst (λ o. IsReferenceAnswer in_table start o (Some (n + 2 + m, label, definition))) (sym (colon_by true l f))
+    (reference_by in_table start n m l.found label definition (target_at around (drop (start + 1 + n + 1) text)) l.size l.text_is t)
+
+-- A label is not empty, and its `]` is a character.
+label_ends : {in_table : Bool} {around : Context} {text : List ℕ} {start n : ℕ} {label : CowStr} → LabelRead in_table around text start n label
+    → begins colon (drop (start + 1 + n) text) ≡ true → (0 < n) × IsCharBoundary text (start + n)
+label_ends {in_table} {around} {text} {start} {n} {label} l is_colon =
+    let last = label_last (prefix_crossed true around) in_table (drop (start + 1) text) l.found l.is in
+    let same = l.size in
+    let some = last.0 in
+    let there = (first_byte colon text (start + 1 + n) is_colon).0 in
+    let i : start + 1 + (l.found.0 - 1) ≡ start + n = omega arith in
+    let byte : slice_index text (start + n) ≡ right_bracket = ap (slice_index text) (sym i) ∙ sym (get_or-drop (start + 1) text (l.found.0 - 1) 0) ∙ last.1 in
+    (omega arith, IsCharBoundary-before_ascii text (start + n) (omega arith) (omega (arith, byte)))
+
+-- All parts have their places where those of the target have.
+pub has_parts : {in_table : Bool} {around : Context} {text : List ℕ} {start n : ℕ} {label : CowStr} (o : Option (ℕ × Target)) (found : ℕ × LinkDef)
+    → LabelRead in_table around text start n label → begins colon (drop (start + 1 + n) text) ≡ true
+    → IsTargetAnswer in_table start (start + 1 + n + 1) o (Some found) → AreInOrder text (start + 1 + n + 1) found.1 → HasParts text found.1
+has_parts {in_table} {around} {text} {start} {n} {label} o found l is_colon target order =
+    let definition : LinkDef = found.1 in
+    let ends = label_ends l is_colon in
+    let some = ends.0 in
+    let t = (matched _ o target).says.definition in
+    let begin = t.start_is in
+    let closes : definition.places.label_end ≡ start + 1 + n + 1 - 2 = ap (λ places. places.label_end) t.places_are in
+    let end_is : start + n ≡ definition.places.label_end = omega arith in
+    let past_is : start + 1 + n + 1 ≡ definition.places.label_end + 2 = omega arith in
+    record {
+      label = omega arith;
+      boundary = subst (IsCharBoundary text) end_is ends.1;
+      target = subst (λ k. AreInOrder text k definition) past_is order;
+    }
 
 -- after an ASCII byte
 pub after_byte : (byte : ℕ) (text : List ℕ) (at : ℕ) → byte < ascii_end → IsUtf8 text → begins byte (drop at text) ≡ true → IsCharBoundary text (at + 1)

@@ -1,13 +1,12 @@
 -- Open nodes can always be completed, and each text has a derivation.
 use Rattle.std.proofs.Common.{◌≡◌, ℕ, suc, Bool, false, List, [], ◌∷◌, length, refl, sym, subst, arith}
-use Rattle.first_pass_grammar.proofs.Common.{Item, Options, Place, lines_at, Names, Extends, is_quote, Document, document, Continues, Line, level}
-use Rattle.first_pass_grammar.proofs.Common.{Remaining, Lines, InLine, onward, end_before, IsSequence, Before, nothing, after_container, before_end}
-use Rattle.first_pass_grammar.proofs.Common.{ItemsOf, Rows, any_gap, rows_of, Tables, Derives, no_tables, with_all_of, root_of, items_of, OneList}
-use Rattle.first_pass_grammar.proofs.Common.{Unfinished, Further, AreFurther, rows_beyond, rendered, Frame, InContainer, InList, InDefinitions}
-use Rattle.first_pass_grammar.proofs.Common.{definitions_open, containers_of, loosened, container_closed, Becomes, Completes}
+use Rattle.first_pass_grammar.proofs.Common.{Item, Options, Place, lines_at, Names, Extends, is_quote, Document, document, Continues, Line, level, Remaining}
+use Rattle.first_pass_grammar.proofs.Common.{Lines, InLine, onward, end_before, IsSequence, Before, nothing, after_container, before_end, ItemsOf, Rows}
+use Rattle.first_pass_grammar.proofs.Common.{any_gap, rows_of, Tables, Derives, no_tables, with_all_of, root_of, items_of, OneList, Unfinished, Further}
+use Rattle.first_pass_grammar.proofs.Common.{AreFurther, rows_beyond, rendered, Frame, InContainer, InList, InDefinitions, definitions_open, containers_of}
+use Rattle.first_pass_grammar.proofs.Common.{loosened, container_closed, Becomes, Completes}
 use Rattle.first_pass_grammar.specs.declared.kind.Container.{Container}
-use Rattle.first_pass_grammar.specs.Completion.{rows_on}
-use Rattle.first_pass_grammar.specs.Completion.{CanGoOn, Completion}
+use Rattle.first_pass_grammar.specs.Completion.{rows_on, CanGoOn, Completion}
 use Rattle.first_pass_exists.proofs.Found.{Found, found_also, found_then}
 use Rattle.first_pass_grammar.proofs.Names.MoreNames.{extends_none}
 use Rattle.first_pass_grammar.proofs.Sequences.Finishes.{containers-loosened}
@@ -49,8 +48,7 @@ becomes_some : (d : Document) (frames : List Frame) (places : List ℕ) (w : Unf
     → (forest : List (ℕ × Item)) × (tables : Tables) × Becomes frames places w further forest tables
 unfolding AreFurther Becomes
 becomes_some d [] [] w [] from lines size are = absurd are
-becomes_some d [] [] w (f ∷ []) from lines size are =
-    (rendered 1 f.«end» w.nodes w.list (rows_on false w f), with_all_of w.defined f.blocks, (refl, refl))
+becomes_some d [] [] w (f ∷ []) from lines size are = (rendered 1 f.«end» w.nodes w.list (rows_on false w f), with_all_of w.defined f.blocks, (refl, refl))
 becomes_some d [] [] w (f ∷ g ∷ more) from lines size are = absurd are
 becomes_some d [] (place ∷ places) w further from lines size are = absurd (omega arith)
 becomes_some d (frame ∷ frames) [] w further from lines size are = absurd (omega arith)

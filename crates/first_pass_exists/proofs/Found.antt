@@ -1,12 +1,11 @@
 -- Names that extend others are found for texts, info strings, raw lines and other named values.
 use Rattle.std.proofs.Common.{◌≡◌, ℕ, zero, suc, false, List, [], ◌∷◌, ◌++◌, length, slice_get, Option, Some, None, refl}
 use Rattle.first_pass_grammar.proofs.Common.{CowStr, Borrowed, Alignment, AlignmentIndex, CowIndex, HeadingIndex, Item, SynthesizeText, Options, Place}
-use Rattle.first_pass_grammar.proofs.Common.{offset, line_end, unescaped, add_tokens, Names, NamesText, NamesAlignments, NamesAttributes, Extends}
-use Rattle.first_pass_grammar.proofs.Common.{Attributes, document, NamesInfo, NamesLabel, spaces, AreColumns, Ranges, raw_items, AreRawLines}
+use Rattle.first_pass_grammar.proofs.Common.{offset, line_end, unescaped, add_tokens, Names, NamesText, NamesAlignments, NamesAttributes, Extends, Attributes}
+use Rattle.first_pass_grammar.proofs.Common.{document, NamesInfo, NamesLabel, spaces, AreColumns, Ranges, raw_items, AreRawLines}
 use Rattle.first_pass_grammar.specs.Names.{with_named, with_alignments, with_heading}
 use Rattle.first_pass_grammar.proofs.Names.MoreNames.{extends_none, extends_both, extends_named, extends_alignments, extends_heading, text_last}
-use Rattle.first_pass_grammar.proofs.Names.MoreNames.{alignments_last}
-use Rattle.first_pass_grammar.proofs.Names.MoreNames.{heading_last}
+use Rattle.first_pass_grammar.proofs.Names.MoreNames.{alignments_last, heading_last}
 
 -- A value, with names that extend these; the value has a property under all names that extend those.
 pub record Found (names : Names) (A : Type 0) (Holds : Names → A → Type 0) : Type 0 where

@@ -1,28 +1,29 @@
 -- Each place has a kind, and each kind opens something.
-use Rattle.std.proofs.Common.{◌≡◌, ◌⊎◌, inl, inr, ℕ, suc, ◌+◌, ◌<◌, ◌≤◌, Bool, true, false, true≢false, List, [], ◌∷◌, length, drop, Option, Some, None}
-use Rattle.std.proofs.Common.{refl, sym, arith, nat_lt, if◌then◌else◌, IfSome, is_some}
+use Rattle.std.proofs.Common.{◌≡◌, ◌⊎◌, inl, inr, ℕ, suc, ◌+◌, ◌≤◌, Bool, true, false, true≢false, List, [], ◌∷◌, length, drop, Option, Some, None, refl, sym}
+use Rattle.std.proofs.Common.{arith, nat_lt, if◌then◌else◌, IfSome, is_some}
 use Rattle.first_pass_grammar.proofs.Common.{and_parts, less_than, Item, HeadingLevel, IndentCodeBlock, FencedCodeBlock, MetadataBlock, HtmlBlock, Options}
 use Rattle.first_pass_grammar.proofs.Common.{begins, level_number, atx_level, Rest, indent, Place, offset, moved_columns, hrule_len, code_fence, BlockEnd}
 use Rattle.first_pass_grammar.proofs.Common.{html_end, BeginsTagLine, Context, context, Names, Kind, Blank, IndentedCode, Metadata, HtmlToEnd, HtmlToBlank}
 use Rattle.first_pass_grammar.proofs.Common.{ThematicBreak, AtxHeading, FencedCode, LinkDefinitions, all_taken, unindented, is_blank_rest, heading_or}
 use Rattle.first_pass_grammar.proofs.Common.{rule_or, fence_or, metadata_at, begins_html_to_end, begins_html_to_blank, html_kind, first_kind, later_kind}
 use Rattle.first_pass_grammar.proofs.Common.{IsKindBy, IsKind, document, block_with, heading_text_at, heading_block, rule_block, range_text, range_html}
-use Rattle.first_pass_grammar.proofs.Common.{code_place, code_by, code_lines, without_blanks, last_end, metadata_kind, IsMetadata, info_string}
-use Rattle.first_pass_grammar.proofs.Common.{IsFencedCode, until_end, IsHtml, LinkEntry, link_definition_at, kind_in, Beyond, Ended, FlowsOn, Extent}
-use Rattle.first_pass_grammar.proofs.Common.{Verdict, GoesOn, IsLast, extent_by, extent, Leaf, Block, leaf_block, flowing_block, BlankLine, OpensBeyond}
-use Rattle.first_pass_grammar.proofs.Common.{OpensRun, Continues, Line, Blanks, AtPlace, only_blanks, Opening, OpensLeaf, OpensNode, OpensText, OpensExtent}
-use Rattle.first_pass_grammar.proofs.Common.{OpensAs, OpensBlockAt}
+use Rattle.first_pass_grammar.proofs.Common.{code_lines, without_blanks, last_end, metadata_kind, IsMetadata, info_string, IsFencedCode, until_end, IsHtml}
+use Rattle.first_pass_grammar.proofs.Common.{LinkEntry, link_definition_at, kind_in, Beyond, Ended, FlowsOn, Extent, Block, leaf_block, flowing_block}
+use Rattle.first_pass_grammar.proofs.Common.{BlankLine, OpensBeyond, OpensRun, Continues, Line, Blanks, AtPlace, only_blanks, Opening, OpensLeaf, OpensNode}
+use Rattle.first_pass_grammar.proofs.Common.{OpensText, OpensExtent, OpensAs, OpensBlockAt, Leaf}
 use Rattle.first_pass_html.proofs.TagDecisions.{tag_line_decided}
 use Rattle.first_pass_grammar.specs.declared.kind.Container.{Container}
 use Rattle.first_pass_grammar.specs.Kinds.{Paragraph, metadata_or}
-use Rattle.first_pass_grammar.specs.CodeBlocks.{last_is_blank, IsIndentedCode, metadata_lines}
-use Rattle.first_pass_grammar.specs.CodeBlocks.{fenced_lines}
+use Rattle.first_pass_grammar.specs.CodeBlocks.{last_is_blank, IsIndentedCode, metadata_lines, fenced_lines}
 use Rattle.first_pass_grammar.specs.HtmlBlocks.{until_blank, first_owing}
-use Rattle.first_pass_exists.proofs.RunsFound.{left_beyond, run_found}
+use Rattle.first_pass_exists.proofs.RunsFound.{run_found}
 use Rattle.first_pass_grammar.specs.Blocks.{run_block}
 use Rattle.first_pass_exists.proofs.Found.{Found, named_info, raw_lines_found, found_also, found_then, found_here}
 use Rattle.first_pass_exists.proofs.LinesFound.{heading_found}
 use Rattle.first_pass_exists.proofs.TablesFound.{text_found}
+use Rattle.first_pass_grammar.proofs.Each.EachOpening.{LeavesLines, leaf_lines}
+use Rattle.first_pass_grammar.proofs.Sequences.LinesLeft.{text_left}
+use Rattle.first_pass_grammar.proofs.Sequences.PlacesKept.{IsKeptBelow, Anywhere, anywhere_kept}
 
 -- an HTML block of types 1 to 5 has an end condition
 abbrev HasEnd : List ℕ → Kind → Type 0
@@ -75,68 +76,29 @@ kind_by r None ends = last_found r (tag_line_decided (all_taken r).left)
 kind_found : (options : Options) (r : Rest) → (k : Kind) × IsKind options r k × HasEnd (all_taken r).left k
 kind_found options r = kind_by r (first_kind options r) (first_ends options r)
 
--- a block leaves no more lines than there were
-extent_left_by : (v : Verdict) (line : Place) (lines : List Place) (e : Extent) → length e.left ≤ length lines
-    → length (extent_by v line lines e).left ≤ length (line ∷ lines)
-extent_left_by (GoesOn p) line lines e h = omega arith
-extent_left_by v line lines e h = omega arith
-
-extent_left : (judge : Place → Verdict) (n : ℕ) (lines : List Place) → length (extent judge n lines).left ≤ length lines
-unfolding extent
-extent_left judge n [] = omega arith
-extent_left judge n (line ∷ lines) = extent_left_by (judge line) line lines (extent judge n lines) (extent_left judge n lines)
-
-tag_left_by : (t : Bool) (p : Place) (lines : List Place) (e : Extent) → length e.left ≤ length lines
-    → length (extent_by (if t then IsLast p else GoesOn p) p lines e).left ≤ length lines
-tag_left_by true p lines e h = omega arith
-tag_left_by false p lines e h = h
-
-code_left_by : (o : Option Place) (line : Place) (lines : List Place) (further : List Place × List Place) → length further.1 ≤ length lines
-    → length (code_by lines (line ∷ lines) o further).1 ≤ length (line ∷ lines)
-code_left_by None line lines further h = omega arith
-code_left_by (Some p) line lines further h = omega arith
-
-code_left : (path : List Container) (lines : List Place) → length (code_lines path lines).1 ≤ length lines
-unfolding code_lines
-code_left path [] = omega arith
-code_left path (line ∷ lines) = code_left_by (code_place path line) line lines (code_lines path lines) (code_left path lines)
-
 -- the length of the remaining line at a place inside a line, plus one; 0 at the start of a line
 abbrev pub reach : Continues → ℕ
 reach Line = 0
 reach (Blanks e) = 0
 reach (AtPlace p may) = suc (length p.rest.left)
 
--- Where blocks continue, less of the line or fewer lines are left.
+-- Where blocks continue, fewer lines are left, or as many and no more of the line before them.
 abbrev pub IsShorter : ℕ → List Place → Continues → List Place → Type 0
-IsShorter most lines there left = (length left ≤ length lines) × ((reach there ≤ most) ⊎ (length left < length lines))
+IsShorter most lines there left = (length left ≤ length lines) × (length left ≡ length lines → reach there ≤ most)
 
 -- After a leaf, and inside a container, less of the text is left. After a leaf, more than blank lines may follow.
 abbrev pub Shrinks : ℕ → List Place → Opening → Type 0
 Shrinks most lines (OpensLeaf leaf there left) = IsShorter most lines there left × (only_blanks there ≡ None)
 Shrinks most lines (OpensNode head inside following) = IsShorter most lines inside following
 
-at_next_line : (most : ℕ) (lines : List Place) (leaf : Leaf) (left : List Place) → length left ≤ length lines → Shrinks most lines (OpensLeaf leaf Line left)
-at_next_line most lines leaf left less = ((less, inl (omega arith)), refl)
+-- A leaf block after which blocks continue at the next line shrinks what is left, if no more lines are left.
+line_shrinks : (most : ℕ) (lines : List Place) (o : Opening) → LeavesLines (λ left. length left ≤ length lines) o → Shrinks most lines o
+line_shrinks most lines (OpensLeaf leaf there left) (line, less) = ((less, λ same. rw line (omega arith)), rw line)
+line_shrinks most lines (OpensNode head inside following) h = absurd h
 
 -- something that opens, after which less of the text is left
 abbrev pub Leads : Names → ℕ → List Place → (Names → Opening → Type 0) → Type 0
 Leads names most lines Are = Found names Opening (λ later o. Shrinks most lines o × Are later o)
-
--- a leaf by what is found for it; a leaf that needs no more names; and an opening that also has another property
-leads_found : {names : Names} {Are : Names → Opening → Type 0} {A : Type 0} {P : Names → A → Type 0} (most : ℕ) (lines : List Place) (f : Found names A P)
-    (leaf : Leaf) (left : List Place) → length left ≤ length lines → ((later : Names) → P later f.value → Are later (OpensLeaf leaf Line left))
-    → Leads names most lines Are
-leads_found most lines f leaf left less opens =
-    found_also f (OpensLeaf leaf Line left) (λ later h. (at_next_line most lines leaf left less, opens later h))
-
-pub leads_leaf : {names : Names} {Are : Names → Opening → Type 0} (most : ℕ) (lines : List Place) (leaf : Leaf) (left : List Place)
-    → ((later : Names) → Are later (OpensLeaf leaf Line left)) → length left ≤ length lines → Leads names most lines Are
-leads_leaf most lines leaf left opens less = found_here (OpensLeaf leaf Line left) (λ later. (at_next_line most lines leaf left less, opens later))
-
-pub leads_also : {names : Names} {Are Also : Names → Opening → Type 0} (most : ℕ) (lines : List Place) (leads : Leads names most lines Are)
-    → ((later : Names) → Are later leads.value → Also later leads.value) → Leads names most lines Also
-leads_also most lines leads also = found_also leads leads.value (λ later h. (h.0, also later h.1))
 
 -- the items of blocks
 code_found : (text : List ℕ) (options : Options) (names : Names) (p : Place) (further : List Place)
@@ -169,94 +131,70 @@ fence_found text options names start count places e =
     (λ later are. record { chain = lines.value; info = info.value; names = are.0; lines = are.1; items_are = refl })
 
 -- what each kind opens
-leads_extent : (names : Names) (most : ℕ) (lines : List Place) (kind : Kind) (p : Place) (e : Extent) (Are : Names → List (ℕ × Item) → Type 0)
-    → Found names (List (ℕ × Item)) Are → length e.left ≤ length lines → Leads names most lines (λ later o. OpensExtent kind p e (Are later) o)
-leads_extent names most lines kind p e Are items less =
-    leads_found most lines items (leaf_block kind p items.value false) e.left less (λ later are. (items.value, are, refl))
+abbrev pub Opens : Names → (Names → Opening → Type 0) → Type 0
+Opens names Are = Found names Opening Are
 
-leads_code : (text : List ℕ) (options : Options) (names : Names) (most : ℕ) (path : List Container) (p : Place) (lines : List Place)
-    → Leads names most lines (λ later o. OpensAs (document text options later) path p lines IndentedCode o)
-unfolding OpensAs
-leads_code text options names most path p lines =
-    let items = code_found text options names (moved_columns 4 p) (code_lines path lines).0 in
-    leads_found most lines items (leaf_block IndentedCode p items.value (last_is_blank (code_lines path lines).0)) (code_lines path lines).1
-    (code_left path lines) (λ later are. (items.value, are, refl))
+opens_extent : (names : Names) (kind : Kind) (p : Place) (e : Extent) (Are : Names → List (ℕ × Item) → Type 0)
+    → Found names (List (ℕ × Item)) Are → Opens names (λ later o. OpensExtent kind p e (Are later) o)
+opens_extent names kind p e Are items =
+    found_also items (OpensLeaf (leaf_block kind p items.value false) Line e.left) (λ later are. (items.value, are, refl))
 
-leads_html : (text : List ℕ) (options : Options) (names : Names) (most : ℕ) (lines : List Place) (kind : Kind) (p : Place) (e : Extent)
-    → length e.left ≤ length lines
-    → (let start : ℕ = offset (unindented p) in
-    Leads names most lines (λ later o. OpensExtent kind p e (IsHtml (document text options later) start (indent p.rest) e.places e.«end») o))
-leads_html text options names most lines kind p e less =
+opens_html : (text : List ℕ) (options : Options) (names : Names) (kind : Kind) (p : Place) (e : Extent)
+    → Opens names (λ later o. OpensExtent kind p e (IsHtml (document text options later) (offset (unindented p)) (indent p.rest) e.places e.«end») o)
+opens_html text options names kind p e =
     let start : ℕ = offset (unindented p) in
-    leads_extent names most lines kind p e (λ later. IsHtml (document text options later) start (indent p.rest) e.places e.«end»)
-    (html_found text options names start (indent p.rest) e.places e.«end») less
+    opens_extent names kind p e (λ later. IsHtml (document text options later) start (indent p.rest) e.places e.«end»)
+    (html_found text options names start (indent p.rest) e.places e.«end»)
 
-leads_to_end : (text : List ℕ) (options : Options) (names : Names) (most : ℕ) (path : List Container) (p : Place) (lines : List Place)
-    → HasEnd (all_taken p.rest).left HtmlToEnd → Leads names most lines (λ later o. OpensAs (document text options later) path p lines HtmlToEnd o)
-unfolding OpensAs
-leads_to_end text options names most path p lines (mark, ends) =
-    leads_also most lines
-    (leads_html text options names most lines HtmlToEnd p (until_end (length text) path mark (unindented p) lines)
-    (tag_left_by _ (unindented p) lines _ (extent_left _ (length text) lines)))
-    (λ later opens. (mark, ends, opens))
-
-leads_heading : (text : List ℕ) (options : Options) (names : Names) (most : ℕ) (path : List Container) (p : Place) (lines : List Place)
-    (level : HeadingLevel) → Leads names most lines (λ later o. OpensAs (document text options later) path p lines (AtxHeading level) o)
-unfolding OpensAs
-leads_heading text options names most path p lines level =
-    let found = heading_found names text options (heading_text_at text (offset (unindented p)) (level_number level)) in
-    let h = found.value in
-    leads_found most lines found (leaf_block (AtxHeading level) p (heading_block (offset (unindented p)) h.1.1 level h.0 h.1.0) false) lines (omega arith)
-    (λ later is. (h.0, h.1.0, h.1.1, is, refl))
-
-pub leads_text : (text : List ℕ) (options : Options) (names : Names) (most : ℕ) (path : List Container) (p : Place) (lines : List Place)
-    (marker : Option Item) → Leads names most lines (λ later o. OpensText (document text options later) path p lines marker o)
+opens_text : (text : List ℕ) (options : Options) (names : Names) (path : List Container) (p : Place) (lines : List Place) (marker : Option Item)
+    → Opens names (λ later o. OpensText (document text options later) path p lines marker o)
 unfolding OpensText
-leads_text text options names most path p lines marker =
+opens_text text options names path p lines marker =
     let found = text_found names text options path (unindented p) marker lines in
-    let (t, less) = found.value in leads_found most lines found (leaf_block Paragraph p t.items false) t.left less (λ later is. (t, is, refl))
+    found_also found (OpensLeaf (leaf_block Paragraph p found.value.items false) Line found.value.left) (λ later is. (found.value, is, refl))
 
-leads_beyond : (text : List ℕ) (options : Options) (names : Names) (most : ℕ) (path : List Container) (lines : List Place) (definitions : List LinkEntry)
-    (beyond : Beyond)
-    → length (left_beyond beyond) ≤ length lines → Leads names most lines (λ later o. OpensBeyond (document text options later) path definitions beyond o)
-leads_beyond text options names most path lines definitions (Ended q left) less =
-    leads_leaf most lines (Block (run_block q definitions)) left (λ later. refl) less
-leads_beyond text options names most path lines definitions (FlowsOn q further) less =
+opens_beyond : (text : List ℕ) (options : Options) (names : Names) (path : List Container) (definitions : List LinkEntry) (beyond : Beyond)
+    → Opens names (λ later o. OpensBeyond (document text options later) path definitions beyond o)
+opens_beyond text options names path definitions (Ended q left) = found_here (OpensLeaf (Block (run_block q definitions)) Line left) (λ later. refl)
+opens_beyond text options names path definitions (FlowsOn q further) =
     let found = text_found names text options path q None further in
-    let (t, low) = found.value in
-    leads_found most lines found (Block (flowing_block q definitions t.items)) t.left (omega arith) (λ later is. (t, is, refl))
+    found_also found (OpensLeaf (Block (flowing_block q definitions found.value.items)) Line found.value.left) (λ later is. (found.value, is, refl))
 
-leads_run : (text : List ℕ) (options : Options) (names : Names) (most : ℕ) (path : List Container) (p : Place) (lines : List Place)
-    → Leads names most lines (λ later o. OpensAs (document text options later) path p lines LinkDefinitions o)
+opens_kind : (text : List ℕ) (options : Options) (names : Names) (path : List Container) (p : Place) (lines : List Place) (kind : Kind)
+    → HasEnd (all_taken p.rest).left kind → Opens names (λ later o. OpensAs (document text options later) path p lines kind o)
 unfolding OpensAs OpensRun
-leads_run text options names most path p lines =
-    let found = run_found (context options path) (unindented p) lines in
-    leads_also most lines (leads_beyond text options names most path lines found.definitions found.beyond found.shorter)
-    (λ later opens. (found.definitions, found.beyond, found.run, opens))
-
-leads_kind : (text : List ℕ) (options : Options) (names : Names) (most : ℕ) (path : List Container) (p : Place) (lines : List Place) (kind : Kind)
-    → HasEnd (all_taken p.rest).left kind → Leads names most lines (λ later o. OpensAs (document text options later) path p lines kind o)
-unfolding OpensAs
-leads_kind text options names most path p lines Blank ends = leads_leaf most lines BlankLine lines (λ later. refl) (omega arith)
-leads_kind text options names most path p lines IndentedCode ends = leads_code text options names most path p lines
-leads_kind text options names most path p lines (Metadata byte) ends =
+opens_kind text options names path p lines Blank ends = found_here (OpensLeaf BlankLine Line lines) (λ later. refl)
+opens_kind text options names path p lines IndentedCode ends =
+    let items = code_found text options names (moved_columns 4 p) (code_lines path lines).0 in
+    let block : Leaf = leaf_block IndentedCode p items.value (last_is_blank (code_lines path lines).0) in
+    found_also items (OpensLeaf block Line (code_lines path lines).1) (λ later are. (items.value, are, refl))
+opens_kind text options names path p lines (Metadata byte) ends =
     let start : ℕ = offset (unindented p) in
     let e : Extent = metadata_lines (length text) path byte lines in
-    leads_extent names most lines (Metadata byte) p e (λ later. IsMetadata (document text options later) start byte e.places e.«end»)
-    (metadata_found text options names start byte e.places e.«end») (extent_left _ (length text) lines)
-leads_kind text options names most path p lines HtmlToEnd ends = leads_to_end text options names most path p lines ends
-leads_kind text options names most path p lines HtmlToBlank ends =
-    leads_html text options names most lines HtmlToBlank p (until_blank (length text) path (unindented p) lines) (extent_left _ (length text) lines)
-leads_kind text options names most path p lines (ThematicBreak size) ends =
-    leads_leaf most lines (leaf_block (ThematicBreak size) p (rule_block (offset (unindented p)) size) false) lines (λ later. refl) (omega arith)
-leads_kind text options names most path p lines (AtxHeading level) ends = leads_heading text options names most path p lines level
-leads_kind text options names most path p lines (FencedCode count byte) ends =
+    opens_extent names (Metadata byte) p e (λ later. IsMetadata (document text options later) start byte e.places e.«end»)
+    (metadata_found text options names start byte e.places e.«end»)
+opens_kind text options names path p lines HtmlToEnd (mark, ends) =
+    let opens = opens_html text options names HtmlToEnd p (until_end (length text) path mark (unindented p) lines) in
+    found_also opens opens.value (λ later is. (mark, ends, is))
+opens_kind text options names path p lines HtmlToBlank ends =
+    opens_html text options names HtmlToBlank p (until_blank (length text) path (unindented p) lines)
+opens_kind text options names path p lines (ThematicBreak size) ends =
+    found_here (OpensLeaf (leaf_block (ThematicBreak size) p (rule_block (offset (unindented p)) size) false) Line lines) (λ later. refl)
+opens_kind text options names path p lines (AtxHeading level) ends =
+    let found = heading_found names text options (heading_text_at text (offset (unindented p)) (level_number level)) in
+    let h = found.value in
+    found_also found (OpensLeaf (leaf_block (AtxHeading level) p (heading_block (offset (unindented p)) h.1.1 level h.0 h.1.0) false) Line lines)
+    (λ later is. (h.0, h.1.0, h.1.1, is, refl))
+opens_kind text options names path p lines (FencedCode count byte) ends =
     let start : ℕ = offset (unindented p) in
     let e : Extent = fenced_lines (length text) path (indent p.rest) byte count lines in
-    leads_extent names most lines (FencedCode count byte) p e (λ later. IsFencedCode (document text options later) start count e.places e.«end»)
-    (fence_found text options names start count e.places e.«end») (extent_left _ (length text) lines)
-leads_kind text options names most path p lines LinkDefinitions ends = leads_run text options names most path p lines
-leads_kind text options names most path p lines Paragraph ends = leads_text text options names most path p lines None
+    opens_extent names (FencedCode count byte) p e (λ later. IsFencedCode (document text options later) start count e.places e.«end»)
+    (fence_found text options names start count e.places e.«end»)
+opens_kind text options names path p lines LinkDefinitions ends =
+    let run = run_found (context options path) (unindented p) lines in
+    let opens = opens_beyond text options names path run.definitions run.beyond in
+    found_also opens opens.value (λ later is. (run.definitions, run.beyond, run.run, is))
+opens_kind text options names path p lines Paragraph ends = opens_text text options names path p lines None
 
 -- no HTML block begins where a text would, so no end condition is needed
 ends_text : (bs : List ℕ) (t : Bool) → HasEnd bs (if t then LinkDefinitions else Paragraph)
@@ -267,10 +205,36 @@ ends_in : (c : Context) (p : Place) (bs : List ℕ) (kind : Kind) → HasEnd bs 
 ends_in c p bs Paragraph ends = ends_text bs (is_some (link_definition_at c (unindented p)))
 ends_in c p bs kind ends = ends
 
--- what opens where no container may begin
-pub leads_block : (text : List ℕ) (options : Options) (names : Names) (most : ℕ) (path : List Container) (p : Place) (lines : List Place)
-    → Leads names most lines (λ later o. OpensBlockAt (document text options later) path p lines o)
-leads_block text options names most path p lines =
-    let kind = kind_found options p.rest in
-    leads_also most lines (leads_kind text options names most path p lines (kind_in (context options path) p kind.0)
-    (ends_in (context options path) p (all_taken p.rest).left kind.0 kind.2)) (λ later opens. (kind.0, kind.1, opens))
+-- what opens where no container may begin, and a text there
+module _ (text : List ℕ) (options : Options) (names : Names) (most : ℕ) (path : List Container) (p : Place) (lines : List Place) where
+  abbrev NoMore : List Place → Type 0
+  NoMore left = length left ≤ length lines
+
+  fewer : IsKeptBelow NoMore
+  fewer line left h = omega arith
+
+  kind_leads : (kind : Kind) → HasEnd (all_taken p.rest).left kind
+      → Leads names most lines (λ later o. OpensAs (document text options later) path p lines kind o)
+  kind_leads kind ends =
+      let f = opens_kind text options names path p lines kind ends in
+      found_also f f.value (λ later opens. (
+        line_shrinks most lines f.value (leaf_lines (document text options later) Anywhere anywhere_kept NoMore (λ line left h. tt) fewer path p lines kind
+            f.value tt (omega arith) opens),
+        opens,
+      ))
+
+  pub leads_text : (marker : Option Item) → Leads names most lines (λ later o. OpensText (document text options later) path p lines marker o)
+  unfolding OpensText
+  leads_text marker =
+      let found = text_found names text options path (unindented p) marker lines in
+      found_also found (OpensLeaf (leaf_block Paragraph p found.value.items false) Line found.value.left)
+      (λ later is. (
+        ((text_left NoMore fewer (document text options later) path (unindented p) marker lines found.value (omega arith) is, λ same. omega arith), refl),
+        (found.value, is, refl),
+      ))
+
+  pub leads_block : Leads names most lines (λ later o. OpensBlockAt (document text options later) path p lines o)
+  leads_block =
+      let kind = kind_found options p.rest in
+      let f = kind_leads (kind_in (context options path) p kind.0) (ends_in (context options path) p (all_taken p.rest).left kind.0 kind.2) in
+      found_also f f.value (λ later h. (h.0, (kind.0, kind.1, h.1)))

@@ -1,18 +1,15 @@
 -- Each line has tokens; each paragraph and each heading has a chain.
-use Rattle.std.proofs.Common.{◌≡◌, inl, inr, ℕ, ◌+◌, ◌≤◌, Bool, true, false, List, [], ◌∷◌, length, drop, Option, refl, arith}
-use Rattle.first_pass_grammar.proofs.Common.{HeadingIndex, Item, Options, line_len, Place, offset, Inline, add_tokens, close_break, Spot, spot}
-use Rattle.first_pass_grammar.proofs.Common.{AreLineTokens, Names, context, at_rest, front, unindented, before_attributes, heading_attributes_of, Document}
-use Rattle.first_pass_grammar.proofs.Common.{document, add_break, line_bytes, heading_content, kept_len, heading_chain, IsHeading, TextLines, text_lines}
-use Rattle.first_pass_grammar.proofs.Common.{AreTextLines, MathBraces}
+use Rattle.std.proofs.Common.{◌≡◌, inl, inr, ℕ, ◌+◌, Bool, true, false, List, [], ◌∷◌, drop, Option, refl}
+use Rattle.first_pass_grammar.proofs.Common.{HeadingIndex, Item, Options, line_len, Place, offset, Inline, add_tokens, close_break, Spot, spot, AreLineTokens}
+use Rattle.first_pass_grammar.proofs.Common.{Names, context, at_rest, front, unindented, before_attributes, heading_attributes_of, Document, document}
+use Rattle.first_pass_grammar.proofs.Common.{add_break, line_bytes, heading_content, kept_len, heading_chain, IsHeading, TextLines, text_lines, AreTextLines}
+use Rattle.first_pass_grammar.proofs.Common.{MathBraces, content_at}
 use Rattle.first_pass_tokens.proofs.LineFound.{line_found}
 use Rattle.first_pass_grammar.specs.declared.kind.Container.{Container}
 use Rattle.first_pass_grammar.specs.Kinds.{ends_text}
 use Rattle.first_pass_exists.proofs.Found.{Found, named_attributes, found_also, found_then}
 use Rattle.first_pass_grammar.proofs.Names.MoreNames.{with_texts, extends_texts}
 use Rattle.first_pass_grammar.proofs.Names.TextsMore.{line_later}
-
-source_at : List ℕ → Options → Spot → Inline
-source_at text options p = record { options = options; whole = text; text = text; start = p.at; row = false; braces = p.braces }
 
 -- a line: its tokens, how it ends, and the brace contexts after it
 record LineRead : Type 0 where
@@ -31,10 +28,9 @@ line_read names s plain =
       holds = λ later e. line_later later mid s line.tokens line.answer e line.line;
     }
 
--- what is read of the lines of a text; no more lines are left than there were
+-- what is read of the lines of a text
 abbrev pub LinesFrom : Names → List ℕ → Options → List Container → Spot → List Item → List Place → Type 0
-LinesFrom names text options path p chain lines =
-    Found names ((given : TextLines) × (length given.left ≤ length lines)) (λ later g. AreTextLines (document text options later) path p chain lines g.0)
+LinesFrom names text options path p chain lines = Found names TextLines (λ later t. AreTextLines (document text options later) path p chain lines t)
 
 -- the spot where the text of the next line begins, and the chain up to there
 abbrev next_spot : List Container → Place → LineRead → Spot
@@ -45,30 +41,29 @@ next_chain chain first = add_break first.answer.1 (add_tokens chain first.tokens
 
 -- the lines of a text after its first line has tokens: the text ends there, or continues with these lines
 lines_by : (names : Names) (text : List ℕ) (options : Options) (path : List Container) (p : Spot) (chain : List Item)
-    (first : Found names LineRead (λ later l. AreLineTokens later.texts (source_at text options p) l.tokens l.answer l.after))
+    (first : Found names LineRead (λ later l. AreLineTokens later.texts (content_at (document text options names) p) l.tokens l.answer l.after))
     (line : Place) (lines : List Place) (t : Bool)
     → ends_text (context options path) line.rest ≡ t
     → LinesFrom first.more text options path (next_spot path line first.value) (next_chain chain first.value) lines
     → LinesFrom names text options path p chain (line ∷ lines)
-unfolding AreTextLines source_at
+unfolding AreTextLines
 lines_by names text options path p chain first line lines true h further =
     let l : LineRead = first.value in
-    found_also first (text_lines (add_tokens chain l.tokens) l.answer.1 (line ∷ lines), omega arith)
+    found_also first (text_lines (add_tokens chain l.tokens) l.answer.1 (line ∷ lines))
     (λ later is. (l.tokens, l.answer, l.after, is, inl (h, refl)))
 lines_by names text options path p chain first line lines false h further =
     let l : LineRead = first.value in
-    let less = further.value.1 in
-    found_also (found_then first further) (further.value.0, omega arith) (λ later is. (l.tokens, l.answer, l.after, is.0, inr (h, is.1)))
+    found_also (found_then first further) further.value (λ later is. (l.tokens, l.answer, l.after, is.0, inr (h, is.1)))
 
 pub lines_found : (names : Names) (text : List ℕ) (options : Options) (path : List Container) (lines : List Place) (p : Spot) (chain : List Item)
     → LinesFrom names text options path p chain lines
-unfolding AreTextLines source_at
+unfolding AreTextLines
 lines_found names text options path [] p chain =
-    let line = line_read names (source_at text options p) refl in
+    let line = line_read names (content_at (document text options names) p) refl in
     let l : LineRead = line.value in
-    found_also line (text_lines (add_tokens chain l.tokens) l.answer.1 [], omega arith) (λ later is. (l.tokens, l.answer, l.after, is, refl))
+    found_also line (text_lines (add_tokens chain l.tokens) l.answer.1 []) (λ later is. (l.tokens, l.answer, l.after, is, refl))
 lines_found names text options path (line ∷ lines) p chain =
-    let first = line_read names (source_at text options p) refl in
+    let first = line_read names (content_at (document text options names) p) refl in
     lines_by names text options path p chain first line lines (ends_text (context options path) line.rest) refl
     (lines_found first.more text options path lines (next_spot path line first.value) (next_chain chain first.value))
 

@@ -1,64 +1,33 @@
 -- Something opens at each place where blocks continue; inside a container less of the text is left.
-use Rattle.std.proofs.Common.{◌≡◌, inl, inr, ℕ, suc, ◌-◌, ◌<◌, ◌≤◌, Bool, true, false, List, [], ◌∷◌, length, Option, Some, None, refl, sym, ap, arith}
-use Rattle.std.proofs.Common.{nat_lt, if◌then◌else◌, ◌+◌, ◌&&◌, drop, MatchOption, option_and_then, length-drop}
-use Rattle.first_pass_grammar.proofs.Common.{false≢true, and_parts, prefix_len, prefix_len-le-length, none-some, cond_some, Item, Options, has, footnotes}
-use Rattle.first_pass_grammar.proofs.Common.{gfm_footnotes, colon, left_bracket, circumflex, begins_footnote_mark, head_after, footnote_head, label_at}
-use Rattle.first_pass_grammar.proofs.Common.{footnote_prefix, footnote_at, footnote_head_at, label_bytes, place_past, past_head, lines_beyond, is_content}
-use Rattle.first_pass_grammar.proofs.Common.{begins, is_white, Rest, indent, after_columns, past_bytes, past_quote, Place, offset, start_of, some_if}
-use Rattle.first_pass_grammar.proofs.Common.{some_mapped, columns_shorter, item_of, definition_of, IsMarked, item-marked, definition-marked, Names, Context}
-use Rattle.first_pass_grammar.proofs.Common.{context, at_rest, prefix, front, footnote_columns, all_taken, unindented, is_blank_rest, is_ordinary_after_tag}
-use Rattle.first_pass_grammar.proofs.Common.{definition_marker_at, Document, document, around, leaf_block, FootnoteMarker, Head, opened, Continues, Line}
-use Rattle.first_pass_grammar.proofs.Common.{AtPlace, Anything, OnlyALeaf, TextOf, OnlyMark, Inside, after_marker, Opening, OpensNode, next_is_blank}
-use Rattle.first_pass_grammar.proofs.Common.{only_task, after_tag, Opens, Level, may_define, OpensBy, OpensFootnote, task_after, Start, start_at}
-use Rattle.first_pass_grammar.proofs.Common.{opening_by, opening_of}
+use Rattle.std.proofs.Common.{◌≡◌, ℕ, suc, ◌<◌, ◌≤◌, Bool, true, false, List, [], ◌∷◌, length, Option, Some, None, refl, sym, ap, arith}
+use Rattle.std.proofs.Common.{drop, MatchOption, option_and_then, length-drop}
+use Rattle.first_pass_grammar.proofs.Common.{false≢true, and_parts, prefix_len, none-some, cond_some, Item, Options, gfm_footnotes}
+use Rattle.first_pass_grammar.proofs.Common.{left_bracket, circumflex, begins_footnote_mark, head_after, footnote_head, label_at}
+use Rattle.first_pass_grammar.proofs.Common.{footnote_head_at, label_bytes, place_past, past_head, lines_beyond, begins, is_white, Rest}
+use Rattle.first_pass_grammar.proofs.Common.{after_columns, past_quote, Place, offset, start_of, some_if, some_mapped, columns_shorter, Names, Context}
+use Rattle.first_pass_grammar.proofs.Common.{context, at_rest, prefix, front, footnote_columns, unindented, is_blank_rest, is_ordinary_after_tag, Document}
+use Rattle.first_pass_grammar.proofs.Common.{document, around, leaf_block, FootnoteMarker, Head, opened, Continues, Line, AtPlace, Anything, OnlyALeaf}
+use Rattle.first_pass_grammar.proofs.Common.{TextOf, OnlyMark, Inside, after_marker, OpensNode, next_is_blank, only_task, after_tag, Opens, Level, may_define}
+use Rattle.first_pass_grammar.proofs.Common.{OpensBy, OpensFootnote, task_after, Start, start_at, opening_by, opening_of, OpensLeaf, cond_both}
 use Rattle.first_pass_exists.proofs.Found.{named_label, found_also, found_here}
 use Rattle.first_pass_lines.proofs.PlaceFacts.{quote_shorter}
 use Rattle.first_pass_grammar.specs.declared.kind.Container.{Container}
 use Rattle.first_pass_grammar.specs.declared.kind.Container.TheVariants.{BlockQuote}
-use Rattle.first_pass_grammar.specs.Kinds.{Paragraph, item_at}
-use Rattle.first_pass_grammar.specs.Skeleton.{Allowed}
-use Rattle.first_pass_grammar.specs.Skeleton.{OpensIf}
-use Rattle.first_pass_grammar.specs.Skeleton.{footnote_opening, without_indent}
-use Rattle.first_pass_exists.proofs.KindsFound.{IsShorter, leads_leaf, reach, Shrinks, Leads, leads_text, leads_block}
+use Rattle.first_pass_grammar.specs.Kinds.{Paragraph}
+use Rattle.first_pass_grammar.specs.Skeleton.{Allowed, OpensIf, footnote_opening, without_indent}
+use Rattle.first_pass_exists.proofs.KindsFound.{IsShorter, reach, Shrinks, Leads, leads_text, leads_block}
 use Rattle.first_pass_grammar.specs.declared.kind.AfterMarker.{AfterMarker}
 use Rattle.first_pass_grammar.specs.declared.kind.AfterMarker.TheVariants.{OnLine, TaskText, LineEnds, OnlyTag}
 use Rattle.first_pass_grammar.proofs.Sequences.OpenerFacts.{start_cases}
 use Rattle.first_pass_exists.proofs.RunsFound.{beyond_shorter}
-use Rattle.first_pass_grammar.proofs.Sequences.PlacesKept.{task_follows}
+use Rattle.first_pass_grammar.proofs.Sequences.PlacesKept.{task_follows, item_shorter, definition_shorter}
 
--- after a marker, less of the line is left
-marked_shorter : (r s : Rest) → IsMarked r s → length s.left < length r.left
-marked_shorter r s m =
-    let some = m.some in
-    let within = m.within in
-    let fits = prefix_len-le-length is_content r.left in
-    let first = columns_shorter m.first (past_bytes m.width r) in
-    let further = columns_shorter m.further (after_columns m.first (past_bytes m.width r)) in
-    let left : length (past_bytes m.width r).left ≡ length r.left - m.width = length-drop m.width r.left in
-    let same = ap (λ (q : Rest). length q.left) m.same in
-    omega arith
-
-marked_if : {A : Type 0} (t : Bool) (r : Rest) (rest : A → Rest) (o : Option A) (x : A) → (o ≡ Some x → IsMarked (all_taken r) (rest x))
-    → (if t then o else None) ≡ Some x → length (rest x).left < length r.left
-marked_if true r rest o x marked h =
-    let less = marked_shorter (all_taken r) (rest x) (marked h) in
-    let all = columns_shorter (indent r) r in
-    omega arith
-marked_if false r rest o x marked h = absurd (none-some x h)
-
-item_shorter : (r : Rest) (item : (ℕ × ℕ × ℕ) × Rest) → item_at r ≡ Some item → length item.1.left < length r.left
-unfolding item_at
-item_shorter r item h = marked_if (nat_lt (indent r) 4) r (λ i. i.1) (item_of (indent r) (all_taken r)) item (item-marked (indent r) (all_taken r) item) h
-
-marker_shorter : (r : Rest) (marker : ℕ × Rest) → definition_marker_at r ≡ Some marker → length marker.1.left < length r.left
-unfolding definition_marker_at
-marker_shorter r marker h =
-    marked_if (nat_lt (indent r) 4) r (λ m. m.1) (definition_of (indent r) (all_taken r)) marker (definition-marked (indent r) (all_taken r) marker) h
-
+-- after a task list item marker, no more of the line is left
 task_shorter : (options : Options) (line : ℕ) (r : Rest) → length (task_after options line r).1.left ≤ length r.left
 task_shorter options line r =
     let (n, left, taken) = task_follows options line r in let same = ap length left in let fewer = length-drop n r.left in omega arith
 
+-- inside a block quote, less of the line is left
 quote_shorter_by : (r inside : Rest) → prefix (BlockQuote None) r ≡ Some inside → length inside.left < length r.left
 unfolding prefix
 quote_shorter_by r inside h =
@@ -74,7 +43,7 @@ start_shorter : (options : Options) (may : Bool) (p : Place) (s : Start) → sta
 start_shorter options may p =
     start_cases options may p (λ s. length s.rest.left < length p.rest.left)
     (λ item is. let less = item_shorter p.rest item is in let task = task_shorter options p.line item.1 in omega arith)
-    (λ marker none is. marker_shorter p.rest marker is)
+    (λ marker none is. definition_shorter p.rest marker is)
     (λ r none is. quote_shorter_by p.rest r is)
 
 -- after a container's marker
@@ -86,26 +55,18 @@ alone_reach : (marker : Option Item) (p : Place) (blanks : Option ℕ) → reach
 alone_reach None p blanks = let none = marker_reach blanks in omega arith
 alone_reach (Some marker) p blanks = omega arith
 
-either_shrinks : (most : ℕ) (lines : List Place) (t : Bool) (o o' : Opening) → Shrinks most lines o → Shrinks most lines o'
-    → Shrinks most lines (if t then o else o')
-either_shrinks most lines true o o' h k = h
-either_shrinks most lines false o o' h k = k
-
 node_shrinks : (most : ℕ) (lines : List Place) (head : Head) (inside : Continues) → reach inside ≤ most → Shrinks most lines (OpensNode head inside lines)
-node_shrinks most lines head inside h = (omega arith, inl h)
+node_shrinks most lines head inside h = (omega arith, λ same. h)
 
 -- after a block quote's tag
 abbrev IsPast : ℕ → List Place → Continues × List Place → Type 0
-IsPast most lines (inside, following) = IsShorter most lines inside following
-
-tag_shrinks_by : (most : ℕ) (line p : Place) (lines : List Place) (t : Bool)
-    → IsPast most (line ∷ lines) (if◌then◌else◌ {A = Continues × List Place} t (Line, line ∷ lines) (AtPlace p OnlyALeaf, lines))
-tag_shrinks_by most line p lines true = (omega arith, inl (omega arith))
-tag_shrinks_by most line p lines false = (omega arith, inr (omega arith))
+IsPast most lines there = IsShorter most lines there.0 there.1
 
 tag_shrinks : (most : ℕ) (c : Context) (lines : List Place) → IsPast most lines (after_tag c lines)
-tag_shrinks most c [] = (omega arith, inl (omega arith))
-tag_shrinks most c (line ∷ lines) = tag_shrinks_by most line (unindented (at_rest line (front c.path line.rest))) lines (is_ordinary_after_tag c line.rest)
+tag_shrinks most c [] = (omega arith, λ same. omega arith)
+tag_shrinks most c (line ∷ lines) =
+    cond_both (is_ordinary_after_tag c line.rest) (Line, line ∷ lines) (AtPlace (unindented (at_rest line (front c.path line.rest))) OnlyALeaf, lines)
+    (IsPast most (line ∷ lines)) (λ b. (omega arith, λ same. omega arith)) (λ b. (omega arith, λ same. omega arith))
 
 start_shrinks : (d : Document) (most : ℕ) (path : List Container) (head : Head) (inside : Place) (lines : List Place) (after : AfterMarker)
     → suc (length inside.rest.left) ≤ most → Shrinks most lines (opening_by d path head inside lines after)
@@ -115,9 +76,10 @@ start_shrinks d most path head inside lines (LineEnds marker) h =
     let blanks : Option ℕ = Some (start_of (length d.text) lines) in
     let alone = alone_reach marker inside blanks in
     let next = alone_reach marker inside None in
-    either_shrinks most lines (next_is_blank (opened head.opener ∷ path) lines) _ _
-    (node_shrinks most lines (record head { opener = without_indent head.opener }) (only_task marker inside blanks) (omega arith))
-    (node_shrinks most lines head (only_task marker inside None) (omega arith))
+    let short : Head = record head { opener = without_indent head.opener } in
+    cond_both (next_is_blank (opened head.opener ∷ path) lines) _ _ (Shrinks most lines)
+    (λ b. node_shrinks most lines short (only_task marker inside blanks) (omega arith))
+    (λ b. node_shrinks most lines head (only_task marker inside None) (omega arith))
 start_shrinks d most path head inside lines OnlyTag h = tag_shrinks most (around d (opened head.opener ∷ path)) lines
 
 -- what opens at a place
@@ -135,8 +97,7 @@ leads_by text options names path p lines (Some s) less =
 -- a footnote definition: less of the text is left after its head
 head_size : (bs : List ℕ) (o : Option (ℕ × List ℕ)) (head : ℕ × List ℕ) → option_and_then (head_after bs) o ≡ Some head → 0 < head.0
 head_size bs None head h = absurd (none-some head h)
-head_size bs (Some label) head h =
-    let size = ap (λ (z : ℕ × List ℕ). z.0) (cond_some (begins colon (drop label.0 bs)) (label.0 + 3, label.1) head h).1 in omega arith
+head_size bs (Some label) head h = grind (arith, cond_some)
 
 some_bytes : (b : ℕ) (bs : List ℕ) → begins b bs ≡ true → 0 < length bs
 some_bytes b [] h = absurd (false≢true h)
@@ -155,25 +116,16 @@ head_shorter_by prefix bs head h =
 head_shorter : (c : Context) (p : Place) (head : ℕ × List ℕ) → footnote_head_at c p ≡ Some head
     → length (drop head.0 (unindented p).rest.left) < length p.rest.left
 unfolding footnote_head_at
-head_shorter c p head h =
-    let found = (some_if (has c.options footnotes && nat_lt (indent p.rest) 4)
-    (footnote_at false c (unindented p).rest.left) head h).1 in
-    let less = head_shorter_by (footnote_prefix c) (unindented p).rest.left head found in
-    let all = columns_shorter (indent p.rest) p.rest in
-    omega arith
-
-after_if : (most : ℕ) (t : Bool) (q line : Place) (following lines : List Place) → suc (length q.rest.left) ≤ most → length (line ∷ following) ≤ length lines
-    → (let there : Place × List Place = if◌then◌else◌ {A = Place × List Place} t (line, following) (q, line ∷ following) in
-    IsShorter most lines (Inside there.0) there.1)
-after_if most true q line following lines less bound = (omega arith, inr (omega arith))
-after_if most false q line following lines less bound = (bound, inl less)
+head_shorter c p head h = grind (arith, some_if, head_shorter_by, columns_shorter)
 
 after_shorter : (most : ℕ) (gfm : Bool) (q : Place) (following lines : List Place) → suc (length q.rest.left) ≤ most → length following ≤ length lines
     → IsShorter most lines (Inside (past_head gfm q following).0) (past_head gfm q following).1
 after_shorter most true q following lines less bound =
-    let n = length-drop (prefix_len is_white q.rest.left) q.rest.left in (bound, inl (omega arith))
-after_shorter most false q [] lines less bound = (bound, inl less)
-after_shorter most false q (line ∷ following) lines less bound = after_if most (is_blank_rest q.rest) q line following lines less bound
+    let n = length-drop (prefix_len is_white q.rest.left) q.rest.left in (bound, λ same. omega arith)
+after_shorter most false q [] lines less bound = (bound, λ same. less)
+after_shorter most false q (line ∷ following) lines less bound =
+    cond_both (is_blank_rest q.rest) (line, following) (q, line ∷ following) (λ (there : Place × List Place). IsShorter most lines (Inside there.0) there.1)
+    (λ b. (omega arith, λ same. omega arith)) (λ b. (bound, λ same. less))
 
 leads_footnote : (text : List ℕ) (options : Options) (names : Names) (most : ℕ) (p : Place) (lines : List Place) (head : ℕ × List ℕ)
     → length (drop head.0 (unindented p).rest.left) < most
@@ -209,4 +161,4 @@ leads_if text options names l Anything p lines = leads_any text options names l 
 leads_if text options names l OnlyALeaf p lines = leads_block text options names (length p.rest.left) l.path p lines
 leads_if text options names l (TextOf marker) p lines = leads_text text options names (length p.rest.left) l.path p lines (Some marker)
 leads_if text options names l (OnlyMark marker blanks) p lines =
-    leads_leaf (length p.rest.left) lines (leaf_block Paragraph p ((0, marker) ∷ []) false) lines (λ later. refl) (omega arith)
+    found_here (OpensLeaf (leaf_block Paragraph p ((0, marker) ∷ []) false) Line lines) (λ later. (((omega arith, λ same. omega arith), refl), refl))

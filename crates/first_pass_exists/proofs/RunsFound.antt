@@ -1,55 +1,37 @@
 -- From each place on there is a run of link reference definitions, which may be empty.
-use Rattle.std.proofs.Common.{◌≡◌, inl, inr, ℕ, zero, suc, ◌≤◌, Bool, true, false, nat_lt, List, [], ◌∷◌, length, Option, Some, None, refl, ap, ◌∙◌, arith}
-use Rattle.std.proofs.Common.{if◌then◌else◌, true≢false}
-use Rattle.first_pass_grammar.proofs.Common.{Place, Context, at_rest, front, unindented, LinkEntry, link_definition_at, lines_beyond, ends_run, Beyond}
-use Rattle.first_pass_grammar.proofs.Common.{Ended, FlowsOn, IsRun}
-
-shorter_by : (e : ℕ) (line : Place) (lines : List Place) (t : Bool)
-    → length (lines_beyond e lines) ≤ length lines → length (if t then lines_beyond e lines else line ∷ lines) ≤ length (line ∷ lines)
-shorter_by e line lines true less = omega arith
-shorter_by e line lines false less = omega arith
+use Rattle.std.proofs.Common.{◌≡◌, inl, inr, ℕ, zero, suc, ◌≤◌, Bool, true, false, List, [], ◌∷◌, length, Option, Some, None, refl, ap, ◌∙◌, arith}
+use Rattle.std.proofs.Common.{true≢false}
+use Rattle.first_pass_grammar.proofs.Common.{Place, Context, at_rest, front, unindented, LinkEntry, link_definition_at, lines_beyond, ends_run, Beyond, Ended}
+use Rattle.first_pass_grammar.proofs.Common.{FlowsOn, IsRun}
+use Rattle.first_pass_grammar.proofs.Sequences.LinesLeft.{beyond_left}
 
 pub beyond_shorter : (e : ℕ) (lines : List Place) → length (lines_beyond e lines) ≤ length lines
-unfolding lines_beyond
-beyond_shorter e [] = omega arith
-beyond_shorter e (line ∷ lines) = shorter_by e line lines (nat_lt line.line e) (beyond_shorter e lines)
-
--- the lines after a run
-abbrev pub left_beyond : Beyond → List Place
-left_beyond (Ended q left) = left
-left_beyond (FlowsOn q lines) = lines
+beyond_shorter e lines = beyond_left (λ left. length left ≤ length lines) (λ line left h. omega arith) e lines (omega arith)
 
 pub record RunFound (around : Context) (p : Place) (lines : List Place) : Type 0 where
   pub definitions : List LinkEntry
   pub beyond : Beyond
   pub run : IsRun around p lines definitions beyond
-  pub shorter : length (left_beyond beyond) ≤ length lines
 
 further_by : (around : Context) (p : Place) (lines rest : List Place) (x : LinkEntry) (t : Bool)
     → link_definition_at around p ≡ Some x → lines_beyond x.«end» lines ≡ rest → ends_run around rest ≡ t → length rest ≤ length lines
     → ((q : Place) (left : List Place) → suc (length left) ≤ length lines → RunFound around q left) → RunFound around p lines
 unfolding IsRun
-further_by around p lines rest x true here is ends less further = record {
-  definitions = x ∷ [];
-  beyond = Ended p (lines_beyond x.«end» lines);
-  run = (here, inl (ap (ends_run around) is ∙ ends, refl, refl));
-  shorter = (let same = ap length is in omega arith);
-}
+further_by around p lines rest x true here is ends less further =
+    record {
+      definitions = x ∷ [];
+      beyond = Ended p (lines_beyond x.«end» lines);
+      run = (here, inl (ap (ends_run around) is ∙ ends, refl, refl));
+    }
 further_by around p lines [] x false here is ends less further = absurd (true≢false ends)
 further_by around p lines (line ∷ left) x false here is ends less further =
     let r = further (unindented (at_rest line (front around.path line.rest))) left less in
-    let low = r.shorter in
-    record {
-      definitions = x ∷ r.definitions;
-      beyond = r.beyond;
-      run = (here, inr (line, left, is, ends, r.run));
-      shorter = omega arith;
-    }
+    record { definitions = x ∷ r.definitions; beyond = r.beyond; run = (here, inr (line, left, is, ends, r.run)) }
 
 found_by : (around : Context) (p : Place) (lines : List Place) (o : Option LinkEntry) → link_definition_at around p ≡ o
     → ((q : Place) (left : List Place) → suc (length left) ≤ length lines → RunFound around q left) → RunFound around p lines
 unfolding IsRun
-found_by around p lines None is further = record { definitions = []; beyond = FlowsOn p lines; run = (is, refl); shorter = omega arith }
+found_by around p lines None is further = record { definitions = []; beyond = FlowsOn p lines; run = (is, refl) }
 found_by around p lines (Some x) is further =
     further_by around p lines (lines_beyond x.«end» lines) x (ends_run around (lines_beyond x.«end» lines)) is refl refl (beyond_shorter x.«end» lines) further
 

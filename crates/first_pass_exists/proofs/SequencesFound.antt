@@ -1,9 +1,9 @@
 -- From each place on there is a sequence of blocks, so open nodes can be completed and each text has a derivation.
 use Rattle.std.proofs.Common.{◌≡◌, inl, inr, ℕ, zero, suc, ◌<◌, ◌≤◌, List, [], ◌∷◌, length, Some, None, refl, ap, subst, arith}
-use Rattle.first_pass_grammar.proofs.Common.{Options, Place, Names, document, Leaf, Head, opened, Skeleton, Nil, Then, Node, Continues, Line, Blanks}
-use Rattle.first_pass_grammar.proofs.Common.{AtPlace, OnlyMark, Opening, OpensLeaf, OpensNode, OpensAt, Level, level, level_in, level_after_leaf}
-use Rattle.first_pass_grammar.proofs.Common.{level_after, Remaining, Lines, InLine, NextBlock, Begins, Ends, next_block, onward, after_first, only_blanks}
-use Rattle.first_pass_grammar.proofs.Common.{end_before, IsFirst, IsSequence, Inside}
+use Rattle.first_pass_grammar.proofs.Common.{Options, Place, Names, document, Leaf, Head, opened, Skeleton, Nil, Then, Node, Continues, Line, Blanks, AtPlace}
+use Rattle.first_pass_grammar.proofs.Common.{OnlyMark, Opening, OpensLeaf, OpensNode, OpensAt, Level, level, level_in, level_after_leaf, level_after}
+use Rattle.first_pass_grammar.proofs.Common.{Remaining, Lines, InLine, NextBlock, Begins, Ends, next_block, onward, after_first, only_blanks, end_before}
+use Rattle.first_pass_grammar.proofs.Common.{IsFirst, IsSequence, cases_lt}
 use Rattle.first_pass_grammar.specs.declared.kind.Container.{Container}
 use Rattle.first_pass_grammar.proofs.Sequences.Goings.{BeginsAt, LeavesAt, begins_at, leaves_at, all_taken_at}
 use Rattle.first_pass_grammar.proofs.Names.MoreNames.{extends_none}
@@ -44,48 +44,41 @@ alone_onward (InLine p lines) = refl
 
 shorter_after : (most : ℕ) (lines left : List Place) (from there : Continues) → IsShorter most lines there left
     → IsShorter most lines (after_first from there) left
-shorter_after most lines left from there (less, inl near) = let reaches = reach_after from there in (less, inl (omega arith))
-shorter_after most lines left from there (less, inr fewer) = (less, inr fewer)
+shorter_after most lines left from there h = (h.0, λ same. omega (arith, reach_after from there, h.1))
 
 shorter_both : (most : ℕ) (lines left further : List Place) (there then : Continues) → IsShorter most lines there left
-    → IsShorter (reach there) left then further
-    → IsShorter most lines then further
-shorter_both most lines left further there then (less, inl near) (less', inl near') = (omega arith, inl (omega arith))
-shorter_both most lines left further there then (less, inl near) (less', inr fewer) = (omega arith, inr (omega arith))
-shorter_both most lines left further there then (less, inr fewer) (less', near) = (omega arith, inr (omega arith))
+    → IsShorter (reach there) left then further → IsShorter most lines then further
+shorter_both most lines left further there then h k = (omega (arith, h.0, k.0), λ same. omega (arith, h.0, h.1, k.0, k.1))
 
 -- a sequence without blocks
 no_more_at : (path : List Container) (from : Continues) (lines following : List Place) (p : Place) → BeginsAt path from lines p following
     → IsNoMore from lines (InLine p following)
 no_more_at path Line [] following p begins = absurd begins
-no_more_at path Line (line ∷ lines) following p (is, same) = let n = ap length same in (omega arith, inr (omega arith))
+no_more_at path Line (line ∷ lines) following p (is, same) = let n = ap length same in (omega arith, λ e. omega arith)
 no_more_at path (Blanks e) [] following p begins = absurd begins
-no_more_at path (Blanks e) (line ∷ lines) following p (is, same) = let n = ap length same in (omega arith, inr (omega arith))
+no_more_at path (Blanks e) (line ∷ lines) following p (is, same) = let n = ap length same in (omega arith, λ e. omega arith)
 no_more_at path (AtPlace q may) lines following p (is, same) =
-    let n = ap length same in let m = ap (λ (z : Place). length z.rest.left) is in (omega arith, inl (omega arith))
+    let n = ap length same in let m = ap (λ (z : Place). length z.rest.left) is in (omega arith, λ e. omega arith)
 
 -- if less is left than where a block begins, then less is left than where the block was looked for
 reach_more : (most : ℕ) (lines left : List Place) (there : Continues) → IsShorter most lines there left → IsShorter (suc most) lines there left
-reach_more most lines left there (less, inl near) = (less, inl (omega arith))
-reach_more most lines left there (less, inr fewer) = (less, inr fewer)
+reach_more most lines left there h = (h.0, λ same. omega (arith, h.1))
 
 shorter_from : (path : List Container) (from there : Continues) (lines following left : List Place) (p : Place) → BeginsAt path from lines p following
     → IsShorter (length p.rest.left) following there left → IsShorter (reach from) lines there left
-shorter_from path from there lines following left p begins s =
-    shorter_both (reach from) lines following left (Inside p) there (no_more_at path from lines following p begins)
-    (reach_more (length p.rest.left) following left there s)
+shorter_from path from there lines following left p begins s = grind (arith, shorter_both, reach, following, left, no_more_at, begins, reach_more)
 
 no_more : (path : List Container) (from : Continues) (lines : List Place) (left : Remaining) → LeavesAt path from lines left → IsNoMore from lines left
-no_more path from lines (Lines left) same = let n = ap length same in (omega arith, inl (omega arith))
+no_more path from lines (Lines left) same = let n = ap length same in (omega arith, λ e. omega arith)
 no_more path from lines (InLine p following) at = no_more_at path from lines following p at.0
 
 -- a first block, with the blocks in it and after it
 module _ (text : List ℕ) (options : Options) where
-  -- blocks from each place on if fewer lines than this are left; the next definition: or as many, at a place inside a
-  -- line that reaches less far
+  -- blocks from each place on if fewer lines than this are left
   abbrev Fewer : ℕ → Type 0
   Fewer n = (names : Names) (l : Level) (from : Continues) (lines : List Place) → length lines < n → SequenceFrom text options names l from lines
 
+  -- the same if as many are left, at a place inside a line that reaches less far
   abbrev Nearer : ℕ → ℕ → Type 0
   Nearer n k =
       (names : Names) (l : Level) (from : Continues) (lines : List Place) → length lines ≤ n → reach from < k → SequenceFrom text options names l from lines
@@ -191,10 +184,11 @@ module _ (text : List ℕ) (options : Options) where
   -- blocks, by how much of the text is left
   others_at : (from : Continues) (lines following : List Place) (p : Place) → IsNoMore from lines (InLine p following) → LessIsFound from lines
       → Others (length p.rest.left) following
-  others_at from lines following p (less, inl near) f names l there left (bound, inl nearer) =
-      f.nearer names l there left (omega (arith, f.within)) (omega (arith, f.near))
-  others_at from lines following p (less, inl near) f names l there left (bound, inr fewest) = f.fewer names l there left (omega (arith, f.within))
-  others_at from lines following p (less, inr fewer) f names l there left (bound, shorter) = f.fewer names l there left (omega (arith, f.within))
+  others_at from lines following p h f names l there left k =
+      elim (cases_lt (length left) f.most_lines) [
+        | inl fewer ↦ f.fewer names l there left fewer
+        | inr same ↦ f.nearer names l there left (omega (arith, h.0, k.0, f.within)) (omega (arith, h.0, h.1, k.0, k.1, f.within, f.near))
+      ]
 
   goes : (names : Names) (l : Level) (from : Continues) (lines : List Place) (g : NextBlock) → next_block options l from lines ≡ g
       → LessIsFound from lines → SequenceFrom text options names l from lines

@@ -1,13 +1,11 @@
 -- Each row has cells, each table body has rows, and each text is a paragraph, a setext heading or a table.
-use Rattle.std.proofs.Common.{◌≡◌, inl, inr, ℕ, zero, suc, ◌+◌, ◌-◌, ◌<◌, ◌≤◌, ◌==◌, ◌&&◌, ◌||◌, nat_le, Bool, true, false, List, [], ◌∷◌, ◌++◌, length}
-use Rattle.std.proofs.Common.{drop, slice_index, Option, Some, None, MatchOption, is_some, refl, sym, ap, ◌∙◌, arith, length-drop, if◌then◌else◌}
-use Rattle.first_pass_grammar.proofs.Common.{cases_lt, lt-leb, at_drop_all, at_drop_more, none-some, pipe, line_feed, carriage_return, has, tables, CowStr}
-use Rattle.first_pass_grammar.proofs.Common.{Alignment, Item, Table, TableHead, TableRow, Options, block_of, is_line_end, begins, eol_len, Place, offset}
-use Rattle.first_pass_grammar.proofs.Common.{start_of, Inline, MathBraces, no_braces, Spot, spot, content_ends_at, IsCell, cell_ends, Names, context}
-use Rattle.first_pass_grammar.proofs.Common.{document, Document, TextLines, headed_table, cell_start, cell_text, cell_block, AreCells, inserted, row_block}
-use Rattle.first_pass_grammar.proofs.Common.{row_text, Taken, taking, FoundRow, TableSoFar, table_so_far, most_inserted, IsTable, heading_attributes_of}
-use Rattle.first_pass_grammar.proofs.Common.{IsPlainText, IsText, IsUnderlined, heading_bytes, heading_children, plain_text, underlined_text}
-use Rattle.first_pass_grammar.proofs.Common.{underline_first, HeadingLevel, and-false}
+use Rattle.std.proofs.Common.{◌≡◌, inl, inr, ℕ, zero, suc, ◌+◌, ◌-◌, ◌≤◌, ◌==◌, Bool, true, false, List, [], ◌∷◌, ◌++◌, length, drop, slice_index, Option}
+use Rattle.std.proofs.Common.{Some, None, MatchOption, is_some, refl, sym, ap, ◌∙◌, arith}
+use Rattle.first_pass_grammar.proofs.Common.{cases_lt, at_drop_all, none-some, pipe, Alignment, Item, Table, TableHead, TableRow, Options, block_of, begins}
+use Rattle.first_pass_grammar.proofs.Common.{eol_len, Place, offset, start_of, Inline, no_braces, Spot, spot, IsCell, Names, context, document, Document}
+use Rattle.first_pass_grammar.proofs.Common.{TextLines, headed_table, cell_start, cell_text, cell_block, AreCells, inserted, row_block, row_text, Taken}
+use Rattle.first_pass_grammar.proofs.Common.{taking, FoundRow, TableSoFar, table_so_far, most_inserted, IsTable, heading_attributes_of, IsPlainText, IsText}
+use Rattle.first_pass_grammar.proofs.Common.{IsUnderlined, heading_bytes, heading_children, plain_text, underlined_text, underline_first, HeadingLevel}
 use Rattle.first_pass_tokens.proofs.LineFound.{cell_found}
 use Rattle.first_pass_grammar.specs.declared.kind.Container.{Container}
 use Rattle.first_pass_grammar.proofs.Count.RowsWithRoom.{is_row, with_row, RowsWithRoom, are_rows}
@@ -15,64 +13,14 @@ use Rattle.first_pass_exists.proofs.Found.{named_alignments, named_attributes, F
 use Rattle.first_pass_grammar.proofs.Names.MoreNames.{extends_none, with_texts, extends_texts}
 use Rattle.first_pass_grammar.proofs.Names.TextsMore.{cell_later}
 use Rattle.first_pass_exists.proofs.LinesFound.{lines_found}
-use Rattle.first_pass_grammar.proofs.Order.RowEnds.{text_after}
+use Rattle.first_pass_grammar.proofs.Order.RowEnds.{text_after, begun_there, cell_takes_a_byte}
 
--- a byte at which no line ends
-no_end_byte : (t u : Bool) (n : ℕ) → (if t then Some 1 else (if u then Some n else None)) ≡ None → (t || u) ≡ false
-no_end_byte true u n h = absurd (none-some 1 (sym h))
-no_end_byte false true n h = absurd (none-some n (sym h))
-no_end_byte false false n h = refl
-
-no_line_end : (text : List ℕ) (at : ℕ) → eol_len (drop at text) ≡ None → (at < length text) × (is_line_end (slice_index text at) ≡ false)
-no_line_end text at h =
-    elim (cases_lt at (length text)) [
-      | inl within ↦
-          let b : ℕ = slice_index text at in (
-            within,
-            no_end_byte (b == line_feed) (b == carriage_return) (if begins line_feed (drop (at + 1) text) then 2 else 1)
-                (sym (at_drop_more (λ bs. eol_len bs) text at 0 within) ∙ h),
-          )
-      | inr past ↦ absurd (none-some 0 (sym h ∙ at_drop_all (λ bs. eol_len bs) text at past))
-    ]
-
--- the inline content of a cell that begins at a spot
-cell_source : List ℕ → Options → Spot → Inline
-cell_source text options p = record { options = options; whole = text; text = text; start = p.at; row = true; braces = p.braces }
-
-none_of : (a b c e : Bool) → a ≡ false → b ≡ false → e ≡ false → (a || (b || (true && (c && e)))) ≡ false
-none_of a b c e h k l = rw (h, k, l) (and-false c)
-
-goes_on_at : (text : List ℕ) (options : Options) (p : Spot) → p.at < length text → is_line_end (slice_index text p.at) ≡ false
-    → (slice_index text p.at == pipe) ≡ false → content_ends_at (cell_source text options p) p.at ≡ false
-unfolding content_ends_at cell_source
-goes_on_at text options p within line other =
-    none_of (nat_le (length text) p.at) (is_line_end (slice_index text p.at)) (has options tables) (slice_index text p.at == pipe)
-    (lt-leb (length text) p.at within) line other
-
--- A cell ends after the place where its content is looked for.
-later_by : (texts : List CowStr) (text : List ℕ) (options : Options) (at : ℕ) (braces : MathBraces) (tokens : List Item) (stop : ℕ)
-    (after : MathBraces) (t : Bool)
-    → (slice_index text at == pipe) ≡ t → eol_len (drop (cell_text text at) text) ≡ None
-    → IsCell texts (cell_source text options (spot (cell_text text at) braces)) tokens stop after → at < stop
-unfolding cell_source
-later_by texts text options at braces tokens stop after true here h cell =
-    let on = no_line_end text (cell_text text at) h in
-    let ends = cell_ends (omega (arith, on.0)) cell in
-    let from : cell_text text at ≤ stop = ends.from in
-    let begins : cell_start text at ≡ at + 1 = ap (λ (t : Bool). if t then at + 1 else at) here in
-    omega arith
-later_by texts text options at braces tokens stop after false here h cell =
-    let on = no_line_end text (cell_text text at) h in
-    let ends = cell_ends (omega (arith, on.0)) cell in
-    let from : cell_text text at ≤ stop = ends.from in
-    let begins : cell_start text at ≡ at = ap (λ (t : Bool). if t then at + 1 else at) here in
-    elim (cases_lt at (cell_text text at)) [
-      | inl following ↦ omega arith
-      | inr same ↦
-          let place : cell_text text at ≡ at = omega arith in
-          let later : cell_text text at < stop =
-          ends.later (goes_on_at text options (spot (cell_text text at) braces) on.0 on.1 (ap (λ (k : ℕ). slice_index text k == pipe) place ∙ here)) in
-          omega arith
+-- A cell that is followed by more of its line is looked for inside the text.
+cell_inside : (text : List ℕ) (at : ℕ) → eol_len (drop (cell_text text at) text) ≡ None → at ≤ length text
+cell_inside text at h =
+    elim (cases_lt (cell_text text at) (length text)) [
+      | inl within ↦ (let following = text_after text at (slice_index text at == pipe) refl in omega arith)
+      | inr past ↦ absurd (none-some 0 (sym h ∙ at_drop_all (λ bs. eol_len bs) text (cell_text text at) past))
     ]
 
 -- a cell: its tokens, and the spot where it ends
@@ -94,14 +42,13 @@ CellsFrom names text options p = Found names (List (List (ℕ × Item)) × Spot)
 cells_by : (names : Names) (text : List ℕ) (options : Options) (p : Spot) (most : ℕ) (o : Option ℕ) → length text ≤ p.at + suc most
     → eol_len (drop (cell_text text p.at) text) ≡ o → ((mid : Names) (next : Spot) → length text ≤ next.at + most → CellsFrom mid text options next)
     → CellsFrom names text options p
-unfolding AreCells cell_source
+unfolding AreCells
 cells_by names text options p most (Some n) h e f = found_here ([], spot (cell_text text p.at + n) p.braces) (λ later. (n, e, refl))
 cells_by names text options p most None h e f =
-    let cell = cell_read names (cell_source text options (spot (cell_text text p.at) p.braces)) in
+    let cell = cell_read names (begun_there (document text options names) p) in
     let (tokens, stop) = cell.value in
     let here = cell.holds cell.more (extends_none cell.more) in
-    let later : p.at < stop.at =
-    later_by cell.more.texts text options p.at p.braces tokens stop.at stop.braces (slice_index text p.at == pipe) refl e here in
+    let later = cell_takes_a_byte (document text options cell.more) p tokens stop.at (cell_inside text p.at e) (ap is_some e) here in
     let further = f cell.more stop (omega arith) in
     found_also (found_then cell further) (cell_block (cell_start text p.at) stop.at tokens ∷ further.value.0, further.value.1)
     (λ later are. (ap is_some e, tokens, stop, are.0, refl, are.1))
@@ -118,13 +65,9 @@ cells_at names text options (suc most) p h =
 pub cells_found : (names : Names) (text : List ℕ) (options : Options) (p : Spot) → CellsFrom names text options p
 cells_found names text options p = cells_at names text options (length text) p (omega arith)
 
--- what a block takes of lines; no more lines are left than there were
-abbrev pub TakenFrom : Names → List Place → (Names → Taken → Type 0) → Type 0
-TakenFrom names lines Holds = Found names ((t : Taken) × (length t.left ≤ length lines)) (λ later t. Holds later t.0)
-
 -- the rows of a table body
 abbrev RowsFrom : Names → List ℕ → Options → List Container → TableSoFar → List Place → Type 0
-RowsFrom names text options path table lines = TakenFrom names lines (λ later t. RowsWithRoom (document text options later) path table lines t)
+RowsFrom names text options path table lines = Found names Taken (λ later t. RowsWithRoom (document text options later) path table lines t)
 
 -- the row with the cells that were found
 abbrev row_with : ℕ → List (List (ℕ × Item)) × Spot → FoundRow
@@ -139,18 +82,18 @@ row_by : (names : Names) (text : List ℕ) (options : Options) (path : List Cont
 unfolding RowsWithRoom
 row_by names text options path table line lines start found true here h more =
     let row : FoundRow = row_with start found.value in
-    let (rest, less) = more.value in
-    found_also (found_then found more) (taking (row_block TableRow table.columns row.start row.cells row.row_end ++ rest.items) rest.left, omega arith)
+    let rest = more.value in
+    found_also (found_then found more) (taking (row_block TableRow table.columns row.start row.cells row.row_end ++ rest.items) rest.left)
     (λ later are. inr (row, record { begins = here; are_cells = are.0 }, inr (h, rest, are.1, refl)))
 row_by names text options path table line lines start found false here h more =
-    found_also found (taking [] (line ∷ lines), omega arith)
+    found_also found (taking [] (line ∷ lines))
     (λ later are. inr (row_with start found.value, record { begins = here; are_cells = are }, inl (h, refl)))
 
 rows_by : (names : Names) (text : List ℕ) (options : Options) (path : List Container) (table : TableSoFar) (line : Place) (lines : List Place)
     (o : Option ℕ) → row_text (context options path) line ≡ o → ((mid : Names) (further : TableSoFar) → RowsFrom mid text options path further lines)
     → RowsFrom names text options path table (line ∷ lines)
 unfolding RowsWithRoom
-rows_by names text options path table line lines None e f = found_here (taking [] (line ∷ lines), omega arith) (λ later. inl (e, refl))
+rows_by names text options path table line lines None e f = found_here (taking [] (line ∷ lines)) (λ later. inl (e, refl))
 rows_by names text options path table line lines (Some start) e f =
     let found = cells_found names text options (spot start table.braces) in
     row_by names text options path table line lines start found (is_row table found.value.0) e refl
@@ -159,25 +102,23 @@ rows_by names text options path table line lines (Some start) e f =
 rows_found : (names : Names) (text : List ℕ) (options : Options) (path : List Container) (lines : List Place) (table : TableSoFar)
     → RowsFrom names text options path table lines
 unfolding RowsWithRoom
-rows_found names text options path [] table = found_here (taking [] [], omega arith) (λ later. refl)
+rows_found names text options path [] table = found_here (taking [] []) (λ later. refl)
 rows_found names text options path (line ∷ lines) table =
     rows_by names text options path table line lines (row_text (context options path) line) refl (λ mid further. rows_found mid text options path lines further)
 
 -- a table
 table_found : (names : Names) (text : List ℕ) (options : Options) (path : List Container) (p : Place) (alignments : List Alignment) (lines : List Place)
-    → TakenFrom names lines (λ later t. IsTable (document text options later) path p alignments lines t)
+    → Found names Taken (λ later t. IsTable (document text options later) path p alignments lines t)
 table_found names text options path p alignments lines =
     let columns : ℕ = length alignments in
     let head = cells_found names text options (spot (offset p) no_braces) in
     let (cells, to) = head.value in
     let table : TableSoFar = table_so_far columns (most_inserted - inserted columns cells) to.braces in
     let body = rows_found head.more text options path (drop 1 lines) table in
-    let (rows, less) = body.value in
+    let rows = body.value in
     let ix = named_alignments body.more alignments in
     let node : Item = record { start = offset p; «end» = start_of (length text) rows.left; body = Table ix.value } in
-    let following = length-drop 1 lines in
-    found_also (found_then (found_then head body) ix)
-    (taking (block_of node (row_block TableHead columns (offset p) cells to.at ++ rows.items)) rows.left, omega arith)
+    found_also (found_then (found_then head body) ix) (taking (block_of node (row_block TableHead columns (offset p) cells to.at ++ rows.items)) rows.left)
     (λ later are. record {
       index = ix.value;
       named = are.1;
@@ -191,36 +132,34 @@ table_found names text options path p alignments lines =
     })
 
 -- a setext heading or a paragraph
-ended_found : (names : Names) (text : List ℕ) (options : Options) (start : ℕ) (marker : Option Item) (l : TextLines) (lines : List Place)
+ended_found : (names : Names) (text : List ℕ) (options : Options) (start : ℕ) (marker : Option Item) (l : TextLines)
     (o : Option (ℕ × HeadingLevel))
-    → length l.left ≤ length lines
-    → TakenFrom names lines (λ later t. MatchOption o (t ≡ plain_text (document text options later) start marker l)
+    → Found names Taken (λ later t. MatchOption o (t ≡ plain_text (document text options later) start marker l)
     (λ underline. IsUnderlined (document text options later) start marker l underline.1 t))
 unfolding heading_children
-ended_found names text options start marker l lines None less = found_here (plain_text (document text options names) start marker l, less) (λ later. refl)
-ended_found names text options start marker l lines (Some underline) less =
+ended_found names text options start marker l None = found_here (plain_text (document text options names) start marker l) (λ later. refl)
+ended_found names text options start marker l (Some underline) =
     let d : Document = document text options names in
     let index = named_attributes names (heading_attributes_of options (heading_bytes d start marker l)) in
-    let following = length-drop 1 l.left in
-    found_also index (underlined_text d start marker underline.1 index.value l, omega arith) (λ later named. (index.value, named, refl))
+    found_also index (underlined_text d start marker underline.1 index.value l) (λ later named. (index.value, named, refl))
 
 plain_found : (names : Names) (text : List ℕ) (options : Options) (path : List Container) (p : Place) (marker : Option Item) (lines : List Place)
-    → TakenFrom names lines (λ later t. IsPlainText (document text options later) path (offset p) marker lines t)
+    → Found names Taken (λ later t. IsPlainText (document text options later) path (offset p) marker lines t)
 plain_found names text options path p marker lines =
     let found = lines_found names text options path lines (spot (offset p) no_braces) [] in
-    let (given, less) = found.value in
-    let ended = ended_found found.more text options (offset p) marker given lines (underline_first path given.left) less in
+    let given = found.value in
+    let ended = ended_found found.more text options (offset p) marker given (underline_first path given.left) in
     found_also (found_then found ended) ended.value (λ later are. (given, are.0, are.1))
 
 -- a paragraph, a setext heading or a table
 text_by : (names : Names) (text : List ℕ) (options : Options) (path : List Container) (p : Place) (marker : Option Item) (lines : List Place)
     (o : Option (List Alignment))
-    → TakenFrom names lines (λ later t. MatchOption o (IsPlainText (document text options later) path (offset p) marker lines t)
+    → Found names Taken (λ later t. MatchOption o (IsPlainText (document text options later) path (offset p) marker lines t)
     (λ alignments. IsTable (document text options later) path p alignments lines t))
 text_by names text options path p marker lines None = plain_found names text options path p marker lines
 text_by names text options path p marker lines (Some alignments) = table_found names text options path p alignments lines
 
 pub text_found : (names : Names) (text : List ℕ) (options : Options) (path : List Container) (p : Place) (marker : Option Item) (lines : List Place)
-    → TakenFrom names lines (λ later t. IsText (document text options later) path p marker lines t)
+    → Found names Taken (λ later t. IsText (document text options later) path p marker lines t)
 unfolding IsText
 text_found names text options path p marker lines = text_by names text options path p marker lines (headed_table (context options path) p.rest.left)

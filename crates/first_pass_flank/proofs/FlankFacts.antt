@@ -46,57 +46,37 @@ pub last_char_by : (A : Type 0) (text whole front : List ℕ) (r : Option ℕ)
 last_char_by A text whole front None same utf8 scalar parts = sym (last_char_none text (ap length (sym same) ∙ parts.0))
 last_char_by A text whole front (Some c) same utf8 scalar parts = sym (last_char_is text front c utf8 scalar (sym same ∙ parts))
 
--- the tests of a run outside rows, by white space and punctuation after and before it
+-- the tests of a run outside rows, by white space and punctuation after and before it: first for a star, then for an underscore
 module _ (wa pa wb pb : Bool) where
-  star_open_tests : cond wa false (cond (not pa) true (cond wb true (pb && true))) ≡ not wa && (not pa || (wb || pb))
-  star_open_tests = grind (arith, nat_tests)
+  open_tests : (cond wa false (cond (not pa) true (cond wb true (pb && true))) ≡ not wa && (not pa || (wb || pb)))
+      × (cond wa false (cond wb true (pb && true)) ≡ (not wa && (not pa || (wb || pb))) && (not (not wb && (not pb || (wa || pa))) || pb))
+  open_tests = (grind (arith, nat_tests), grind (arith, nat_tests))
 
-  star_close_tests : cond wb false (cond (not pb) true (wa || pa)) ≡ not wb && (not pb || (wa || pa))
-  star_close_tests = grind (arith, nat_tests)
+  close_tests : (cond wb false (cond (not pb) true (wa || pa)) ≡ not wb && (not pb || (wa || pa)))
+      × (cond wb false (wa || pa) ≡ (not wb && (not pb || (wa || pa))) && (not (not wa && (not pa || (wb || pb))) || pa))
+  close_tests = (grind (arith, nat_tests), grind (arith, nat_tests))
 
-  underscore_open_tests : cond wa false (cond wb true (pb && true)) ≡ (not wa && (not pa || (wb || pb))) && (not (not wb && (not pb || (wa || pa))) || pb)
-  underscore_open_tests = grind (arith, nat_tests)
+-- a run between two characters, or at the start or the end of a line, opens and closes emphasis by the rules of CommonMark
+module _ (r : DelimiterRun) where
+  abbrev between : Option ℕ → Option ℕ → DelimiterRun
+  between before after = record r { before = before; after = after }
 
-  underscore_close_tests : cond wb false (wa || pa) ≡ (not wb && (not pb || (wa || pa))) && (not (not wa && (not pa || (wb || pb))) || pa)
-  underscore_close_tests = grind (arith, nat_tests)
+  pub emphasis_opens : (before after : Option ℕ)
+      → GoesBy asterisk can_open is_left_flanking (between before after) × GoesBy underscore can_open underscore_opens (between before after)
+  unfolding can_open opens_between
+  emphasis_opens before None = (λ plain star. refl, λ plain line. refl)
+  emphasis_opens None (Some a) = (λ plain star. grind (arith, nat_tests), λ plain line. grind (arith, nat_tests))
+  emphasis_opens (Some b) (Some a) = (
+    λ plain star. rw (plain, star) (open_tests (is_whitespace a) (is_punctuation a) (is_whitespace b) (is_punctuation b)).0,
+    λ plain line. rw (plain, line) (open_tests (is_whitespace a) (is_punctuation a) (is_whitespace b) (is_punctuation b)).1,
+  )
 
--- emphasis by the rules of CommonMark
-pub star_opens : (r : DelimiterRun) → GoesBy asterisk can_open is_left_flanking r
-unfolding can_open opens_between
-star_opens r = by r.before r.after refl refl
-  where
-    by : (before after : Option ℕ) → r.before ≡ before → r.after ≡ after → GoesBy asterisk can_open is_left_flanking r
-    by before None eb ea plain star = rw ea refl
-    by None (Some a) eb ea plain star = rw (eb, ea) (grind (arith, nat_tests))
-    by (Some b) (Some a) eb ea plain star =
-        rw (eb, ea, plain, star) (star_open_tests (is_whitespace a) (is_punctuation a) (is_whitespace b) (is_punctuation b))
-
-pub star_closes : (r : DelimiterRun) → GoesBy asterisk can_close is_right_flanking r
-unfolding can_close closes_between
-star_closes r = by r.before r.after refl refl
-  where
-    by : (before after : Option ℕ) → r.before ≡ before → r.after ≡ after → GoesBy asterisk can_close is_right_flanking r
-    by None after eb ea plain star = rw eb refl
-    by (Some b) None eb ea plain star = rw (eb, ea) (grind (arith, nat_tests))
-    by (Some b) (Some a) eb ea plain star =
-        rw (eb, ea, plain, star) (star_close_tests (is_whitespace a) (is_punctuation a) (is_whitespace b) (is_punctuation b))
-
-pub underscore_opens_is : (r : DelimiterRun) → GoesBy underscore can_open underscore_opens r
-unfolding can_open opens_between
-underscore_opens_is r = by r.before r.after refl refl
-  where
-    by : (before after : Option ℕ) → r.before ≡ before → r.after ≡ after → GoesBy underscore can_open underscore_opens r
-    by before None eb ea plain line = rw ea refl
-    by None (Some a) eb ea plain line = rw (eb, ea) (grind (arith, nat_tests))
-    by (Some b) (Some a) eb ea plain line =
-        rw (eb, ea, plain, line) (underscore_open_tests (is_whitespace a) (is_punctuation a) (is_whitespace b) (is_punctuation b))
-
-pub underscore_closes_is : (r : DelimiterRun) → GoesBy underscore can_close underscore_closes r
-unfolding can_close closes_between
-underscore_closes_is r = by r.before r.after refl refl
-  where
-    by : (before after : Option ℕ) → r.before ≡ before → r.after ≡ after → GoesBy underscore can_close underscore_closes r
-    by None after eb ea plain line = rw eb refl
-    by (Some b) None eb ea plain line = rw (eb, ea) (grind (arith, nat_tests))
-    by (Some b) (Some a) eb ea plain line =
-        rw (eb, ea, plain, line) (underscore_close_tests (is_whitespace a) (is_punctuation a) (is_whitespace b) (is_punctuation b))
+  pub emphasis_closes : (before after : Option ℕ)
+      → GoesBy asterisk can_close is_right_flanking (between before after) × GoesBy underscore can_close underscore_closes (between before after)
+  unfolding can_close closes_between
+  emphasis_closes None after = (λ plain star. refl, λ plain line. refl)
+  emphasis_closes (Some b) None = (λ plain star. grind (arith, nat_tests), λ plain line. grind (arith, nat_tests))
+  emphasis_closes (Some b) (Some a) = (
+    λ plain star. rw (plain, star) (close_tests (is_whitespace a) (is_punctuation a) (is_whitespace b) (is_punctuation b)).0,
+    λ plain line. rw (plain, line) (close_tests (is_whitespace a) (is_punctuation a) (is_whitespace b) (is_punctuation b)).1,
+  )

@@ -7,7 +7,7 @@ use Rattle.std.proofs.lemmas.List.{take_more, drop_more}
 use Rattle.std.proofs.lemmas.Str.{IsUtf8-take, IsUtf8-drop, IsCharBoundary-before_ascii, IsCharBoundary-after_ascii, chars_past_char, encode_ascii}
 use Rattle.first_pass_items.specs.Bytes.{underscore, pipe}
 use Rattle.first_pass_flank.specs.declared.flank.DelimiterRun.{DelimiterRun}
-use Rattle.first_pass_flank.specs.Flank.{is_punctuation, opens_between, closes_between, first_char, last_char, ends_with_pipe}
+use Rattle.first_pass_flank.specs.Flank.{is_punctuation, can_open, can_close, opens_between, closes_between, first_char, last_char, ends_with_pipe}
 use Rattle.first_pass_flank.proofs.AsciiFacts.{punctuation_in_ascii}
 use Rattle.first_pass_flank.proofs.FlankFacts.{last_char_by}
 
@@ -29,16 +29,16 @@ word_underscore c h = grind (arith, nat_tests, h)
 
 -- a run of underscores between them neither opens nor closes
 pub opens_not : (row : Bool) (r : DelimiterRun) (p n : ℕ) → r.in_row ≡ row → r.delimiter ≡ underscore → r.after_pipe ≡ false
-    → is_ascii_alphanumeric p ≡ true → is_ascii_alphanumeric n ≡ true → opens_between r p n ≡ false
-unfolding opens_between
-opens_not true r p n row d a hp hn = rw (row, d, a, word_space n hn, word_pipe n hn, word_space p hp, word_punctuation p hp) refl
-opens_not false r p n row d a hp hn = rw (row, d, word_space n hn, word_space p hp, word_punctuation p hp) refl
+    → is_ascii_alphanumeric p ≡ true → is_ascii_alphanumeric n ≡ true → r.before ≡ Some p → r.after ≡ Some n → can_open r ≡ false
+unfolding can_open opens_between
+opens_not true r p n row d a hp hn eb ea = rw (eb, ea, row, d, a, word_space n hn, word_pipe n hn, word_space p hp, word_punctuation p hp) refl
+opens_not false r p n row d a hp hn eb ea = rw (eb, ea, row, d, word_space n hn, word_space p hp, word_punctuation p hp) refl
 
 pub closes_not : (row : Bool) (r : DelimiterRun) (p n : ℕ) → r.in_row ≡ row → r.delimiter ≡ underscore → r.after_pipe ≡ false
-    → is_ascii_alphanumeric p ≡ true → is_ascii_alphanumeric n ≡ true → closes_between r p n ≡ false
-unfolding closes_between
-closes_not true r p n row d a hp hn = rw (row, d, a, word_space p hp, word_pipe n hn, word_space n hn, word_punctuation n hn) refl
-closes_not false r p n row d a hp hn = rw (row, d, word_space p hp, word_space n hn, word_punctuation n hn) refl
+    → is_ascii_alphanumeric p ≡ true → is_ascii_alphanumeric n ≡ true → r.before ≡ Some p → r.after ≡ Some n → can_close r ≡ false
+unfolding can_close closes_between
+closes_not true r p n row d a hp hn eb ea = rw (eb, ea, row, d, a, word_space p hp, word_pipe n hn, word_space n hn, word_punctuation n hn) refl
+closes_not false r p n row d a hp hn eb ea = rw (eb, ea, row, d, word_space p hp, word_space n hn, word_punctuation n hn) refl
 
 scalar_word : (c : ℕ) → c < 128 → IsScalar c
 scalar_word c h = grind (arith, nat_tests, h)

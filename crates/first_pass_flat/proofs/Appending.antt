@@ -184,15 +184,10 @@ all_appended a b others all e w =
     subst (AppendsDefinitions a b) (sym (append-nil w.so_far) ∙ ap (λ l. w.so_far ++ l) (sym e) ∙ w.together) w.appended
 
 -- one more element of a list, mapped
-map_more : {X Y : Type 0} (f : X → Y) (xs : List X) (i : ℕ) (d : X) → i < length xs → map f (take i xs) ++ f (get_or xs i d) ∷ [] ≡ map f (take (i + 1) xs)
-map_more f xs i d h = sym (ap (map f) (take_more xs i d h) ∙ map-append f (take i xs) (get_or xs i d ∷ []))
-
 pub twice_more : {X Y Z : Type 0} (g : Y → Z) (f : X → Y) (xs : List X) (i : ℕ) (d : X) → i < length xs
     → map g (map f (take i xs)) ++ g (f (get_or xs i d)) ∷ [] ≡ map g (map f (take (i + 1) xs))
-twice_more g f xs i d h = sym (map-append g (map f (take i xs)) (f (get_or xs i d) ∷ [])) ∙ ap (map g) (map_more f xs i d h)
+twice_more g f xs i d h = simp (take_more xs i d h, map-append)
 
 pub flat_more : {X Y : Type 0} (f : X → List Y) (xs : List X) (i : ℕ) (d : X) → i < length xs
     → flat_map f (take i xs) ++ f (get_or xs i d) ≡ flat_map f (take (i + 1) xs)
-flat_more f xs i d h =
-    sym (ap (flat_map f) (take_more xs i d h) ∙ flat_map-append f (take i xs) (get_or xs i d ∷ [])
-    ∙ ap (λ l. flat_map f (take i xs) ++ l) (append-nil (f (get_or xs i d))))
+flat_more f xs i d h = simp (take_more xs i d h, flat_map-append, append-nil)

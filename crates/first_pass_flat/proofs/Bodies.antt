@@ -1,24 +1,23 @@
 -- The kind of a node, read back from numbers.
-use Rattle.std.proofs.Common.{◌≡◌, ℕ, ◌<◌, ◌==◌, Bool, true, false, Option, Some, None, List, [], ◌∷◌, ◌++◌, length, map, get_or, nat_lt, slice_get}
-use Rattle.std.proofs.Common.{unwrap_or, if◌then◌else◌, refl, ap, ◌∙◌, cond, arith, is_some, option_map, option_and_then}
-use Rattle.first_pass_grammar.proofs.Common.{slice_get-get_or, CowStr, text_of, Alignment, BlockQuoteKind, HeadingIndex, HeadingLevel, ItemBody, Root}
-use Rattle.first_pass_grammar.proofs.Common.{Paragraph, Rule, Heading, FencedCodeBlock, IndentCodeBlock, HtmlBlock, FootnoteDefinition, MetadataBlock}
-use Rattle.first_pass_grammar.proofs.Common.{DefinitionList, MaybeDefinitionListTitle, DefinitionListTitle, DefinitionListDefinition, Table, TableHead}
-use Rattle.first_pass_grammar.proofs.Common.{TableRow, TableCell, Text, SoftBreak, HardBreak, MaybeEmphasis, Html, SynthesizeText, TaskListMarker}
+use Rattle.std.proofs.Common.{◌≡◌, ℕ, ◌<◌, ◌==◌, Bool, true, false, Option, Some, None, List, [], ◌∷◌, ◌++◌, length, map, get_or, nat_lt, slice_get, take}
+use Rattle.std.proofs.Common.{drop, unwrap_or, if◌then◌else◌, refl, ap, ◌∙◌, cond, arith, is_some, option_map, option_and_then}
+use Rattle.first_pass_grammar.proofs.Common.{take-append_seam, slice_get-get_or, CowStr, text_of, Alignment, BlockQuoteKind, HeadingIndex, HeadingLevel}
+use Rattle.first_pass_grammar.proofs.Common.{ItemBody, Root, Paragraph, Rule, Heading, FencedCodeBlock, IndentCodeBlock, HtmlBlock, FootnoteDefinition}
+use Rattle.first_pass_grammar.proofs.Common.{MetadataBlock, DefinitionList, MaybeDefinitionListTitle, DefinitionListTitle, DefinitionListDefinition, Table}
+use Rattle.first_pass_grammar.proofs.Common.{TableHead, TableRow, TableCell, Text, SoftBreak, HardBreak, MaybeEmphasis, Html, SynthesizeText, TaskListMarker}
 use Rattle.first_pass_grammar.proofs.Common.{level_number, Attributes, no_attributes, Names, Named, AText, NamesEntry, index_of, only_kind, named}
 use Rattle.first_pass_items.specs.declared.item.Alignment.TheVariants.{None as Unaligned, Left, Center, Right}
 use Rattle.first_pass_items.specs.declared.item.BlockQuoteKind.TheVariants.{Note, Tip, Important, Warning, Caution}
 use Rattle.first_pass_items.specs.declared.item.HeadingLevel.TheVariants.{H1, H2, H3, H4, H5, H6}
 use Rattle.first_pass_items.specs.declared.item.MetadataBlockKind.{MetadataBlockKind}
 use Rattle.first_pass_items.specs.declared.item.MetadataBlockKind.TheVariants.{YamlStyle, PlusesStyle}
-use Rattle.first_pass_items.specs.declared.item.ItemBody.TheVariants.{TightParagraph}
-use Rattle.first_pass_items.specs.declared.item.ItemBody.TheVariants.{BlockQuote, List as ListBody, ListItem}
-use Rattle.first_pass_items.specs.declared.item.ItemBody.TheVariants.{MaybeMath, MaybeSmartQuote, MaybeCode, MaybeHtml, MaybeLinkOpen, MaybeLinkClose}
-use Rattle.first_pass_items.specs.declared.item.ItemBody.TheVariants.{MaybeImage, SynthesizeChar}
+use Rattle.first_pass_items.specs.declared.item.ItemBody.TheVariants.{TightParagraph, BlockQuote, List as ListBody, ListItem, MaybeMath, MaybeSmartQuote}
+use Rattle.first_pass_items.specs.declared.item.ItemBody.TheVariants.{MaybeCode, MaybeHtml, MaybeLinkOpen, MaybeLinkClose, MaybeImage, SynthesizeChar}
 use Rattle.first_pass_grammar.specs.Names.{Alignments, OfHeading}
 use Rattle.first_pass_flat.specs.Kinds.{kind_number, values_of, flag, quote_number, metadata_number, alignment_byte}
 use Rattle.first_pass_flat.specs.FlatAttributes.{OneAttribute, class_attribute, key_attribute, listed, attributes_of_body}
-use Rattle.first_pass_flat.specs.FlatNodes.{name_of, named_length}
+use Rattle.first_pass_flat.specs.FlatNodes.{name_of, named_at, named_length}
+use Rattle.first_pass_flat.specs.declared.nodes.FlatPlace.{FlatPlace}
 use Rattle.first_pass_flat.specs.declared.kinds.FlatValues.{FlatValues}
 
 abbrev pub is_set : ℕ → Bool
@@ -34,11 +33,7 @@ level_from n = get_or (H1 ∷ H1 ∷ H2 ∷ H3 ∷ H4 ∷ H5 ∷ H6 ∷ []) n H1
 level_kept : (level : HeadingLevel) → level_from (level_number level) ≡ level
 unfolding level_from
 level_kept H1 = refl
-level_kept H2 = refl
-level_kept H3 = refl
-level_kept H4 = refl
-level_kept H5 = refl
-level_kept H6 = refl
+level_kept _ = refl
 
 quote_from : ℕ → Option BlockQuoteKind
 quote_from n = get_or (None ∷ Some Note ∷ Some Tip ∷ Some Important ∷ Some Warning ∷ Some Caution ∷ []) n None
@@ -47,10 +42,7 @@ quote_kept : (kind : Option BlockQuoteKind) → quote_from (quote_number kind) �
 unfolding quote_from
 quote_kept None = refl
 quote_kept (Some Note) = refl
-quote_kept (Some Tip) = refl
-quote_kept (Some Important) = refl
-quote_kept (Some Warning) = refl
-quote_kept (Some Caution) = refl
+quote_kept _ = refl
 
 metadata_from : ℕ → MetadataBlockKind
 metadata_from n = cond (is_set n) PlusesStyle YamlStyle
@@ -58,7 +50,7 @@ metadata_from n = cond (is_set n) PlusesStyle YamlStyle
 metadata_kept : (kind : MetadataBlockKind) → metadata_from (metadata_number kind) ≡ kind
 unfolding metadata_from
 metadata_kept YamlStyle = refl
-metadata_kept PlusesStyle = refl
+metadata_kept _ = refl
 
 alignment_from : ℕ → Alignment
 alignment_from b = if b == 45 then Unaligned else (if b == 108 then Left else (if b == 99 then Center else Right))
@@ -66,9 +58,7 @@ alignment_from b = if b == 45 then Unaligned else (if b == 108 then Left else (i
 alignment_kept : (alignment : Alignment) → alignment_from (alignment_byte alignment) ≡ alignment
 unfolding alignment_from
 alignment_kept Unaligned = refl
-alignment_kept Left = refl
-alignment_kept Center = refl
-alignment_kept Right = refl
+alignment_kept _ = refl
 
 alignments_kept : (alignments : List Alignment) → map alignment_from (map alignment_byte alignments) ≡ alignments
 alignments_kept [] = refl
@@ -81,7 +71,7 @@ index_from n = cond (is_set n) (Some (record { 0 = 0 })) None
 index_kept : (ix : Option HeadingIndex) → index_from (flag (is_some ix)) ≡ option_map (λ at. record { 0 = 0 }) ix
 unfolding index_from
 index_kept None = refl
-index_kept (Some ix) = refl
+index_kept _ = refl
 
 -- the node of each kind with these values
 bodies : FlatValues → List ItemBody
@@ -114,57 +104,29 @@ body_kept (TaskListMarker checked) = ap TaskListMarker (set_flag checked)
 body_kept _ = refl
 
 -- the attributes of a heading, read back from a list of them
-id_from : List OneAttribute → Option (List ℕ)
-id_from [] = None
-id_from (x ∷ xs) = cond (x.kind == 0) (Some x.name) (id_from xs)
-
-classes_from : List OneAttribute → List (List ℕ)
-classes_from [] = []
-classes_from (x ∷ xs) = cond (x.kind == 1) (x.name ∷ classes_from xs) (classes_from xs)
-
-keys_from : List OneAttribute → List (List ℕ × Option (List ℕ))
-keys_from [] = []
-keys_from (x ∷ xs) = cond (x.kind == 2) ((x.name, x.value) ∷ keys_from xs) (keys_from xs)
-
 attributes_from : List OneAttribute → Attributes
-attributes_from xs = record { id = id_from xs; classes = classes_from xs; attrs = keys_from xs }
+attributes_from [] = no_attributes
+attributes_from (x ∷ xs) =
+    let rest = attributes_from xs in
+    if x.kind == 0 then record rest { id = Some x.name }
+    else (if x.kind == 1 then record rest { classes = x.name ∷ rest.classes } else record rest { attrs = (x.name, x.value) ∷ rest.attrs })
 
-no_id_keys : (keys : List (List ℕ × Option (List ℕ))) → id_from (map key_attribute keys) ≡ None
-unfolding id_from
-no_id_keys [] = refl
-no_id_keys (k ∷ ks) = no_id_keys ks
+keys_kept : (keys : List (List ℕ × Option (List ℕ))) → attributes_from (map key_attribute keys) ≡ record no_attributes { attrs = keys }
+unfolding attributes_from
+keys_kept [] = refl
+keys_kept (k ∷ ks) = rw (keys_kept ks) refl
 
-no_id : (classes : List (List ℕ)) (keys : List (List ℕ × Option (List ℕ))) → id_from (map class_attribute classes ++ map key_attribute keys) ≡ None
-unfolding id_from
-no_id [] keys = no_id_keys keys
-no_id (c ∷ cs) keys = no_id cs keys
-
-no_classes : (keys : List (List ℕ × Option (List ℕ))) → classes_from (map key_attribute keys) ≡ []
-unfolding classes_from
-no_classes [] = refl
-no_classes (k ∷ ks) = no_classes ks
-
-all_classes : (classes : List (List ℕ)) (keys : List (List ℕ × Option (List ℕ)))
-    → classes_from (map class_attribute classes ++ map key_attribute keys) ≡ classes
-unfolding classes_from
-all_classes [] keys = no_classes keys
-all_classes (c ∷ cs) keys = ap (λ l. c ∷ l) (all_classes cs keys)
-
-all_keys : (keys : List (List ℕ × Option (List ℕ))) → keys_from (map key_attribute keys) ≡ keys
-unfolding keys_from
-all_keys [] = refl
-all_keys (k ∷ ks) = ap (λ l. k ∷ l) (all_keys ks)
-
-keys_after : (classes : List (List ℕ)) (keys : List (List ℕ × Option (List ℕ))) → keys_from (map class_attribute classes ++ map key_attribute keys) ≡ keys
-unfolding keys_from
-keys_after [] keys = all_keys keys
-keys_after (c ∷ cs) keys = keys_after cs keys
+classes_kept : (classes : List (List ℕ)) (keys : List (List ℕ × Option (List ℕ)))
+    → attributes_from (map class_attribute classes ++ map key_attribute keys) ≡ record { id = None; classes = classes; attrs = keys }
+unfolding attributes_from
+classes_kept [] keys = keys_kept keys
+classes_kept (c ∷ cs) keys = rw (classes_kept cs keys) refl
 
 listed_kept : (id : Option (List ℕ)) (classes : List (List ℕ)) (keys : List (List ℕ × Option (List ℕ)))
     → attributes_from (listed (record { id = id; classes = classes; attrs = keys })) ≡ record { id = id; classes = classes; attrs = keys }
-unfolding attributes_from id_from classes_from keys_from
-listed_kept None classes keys = rw (no_id classes keys, all_classes classes keys, keys_after classes keys) refl
-listed_kept (Some id) classes keys = rw (all_classes classes keys, keys_after classes keys) refl
+unfolding attributes_from
+listed_kept None classes keys = classes_kept classes keys
+listed_kept (Some id) classes keys = rw (classes_kept classes keys) refl
 
 -- the name of a node, from its kind, the mark of its attribute block, its bytes and its attributes
 pub named_from : ℕ → ℕ → List ℕ → List OneAttribute → Option Named
@@ -204,20 +166,23 @@ named_kept names (Heading level (Some ix)) h = heading_kept (slice_get names.hea
 named_kept names (Heading level None) h = refl
 named_kept names _ h = refl
 
--- the number of bytes and of attributes that a node names
+-- the number of bytes that a node names, and of attributes
 pub bytes_named : ℕ → ℕ → ℕ
 bytes_named kind count = cond (kind == 4) 0 count
 
 pub attributes_counted : ℕ → ℕ → ℕ
 attributes_counted kind count = cond (kind == 4) count 0
 
-pub bytes_counted : (names : Names) (body : ItemBody) → bytes_named (kind_number body) (named_length names body) ≡ length (name_of names body)
+pub name_kept : (names : Names) (at : FlatPlace) (body : ItemBody) (bytes rest : List ℕ) → drop at.name bytes ≡ name_of names body ++ rest
+    → take (bytes_named (kind_number body) (named_length names body)) (drop (named_at at body) bytes) ≡ name_of names body
 unfolding bytes_named
-bytes_counted names (Heading level ix) = refl
-bytes_counted names _ = refl
+name_kept names at (Heading level ix) bytes rest h = refl
+name_kept names at body bytes rest h = ap (take (length (name_of names body))) h ∙ take-append_seam (name_of names body) rest
 
-pub attributes_kept : (names : Names) (body : ItemBody)
-    → attributes_counted (kind_number body) (named_length names body) ≡ length (attributes_of_body names body)
+pub attributes_kept : (names : Names) (at : FlatPlace) (body : ItemBody) (xs rest : List OneAttribute)
+    → drop at.attribute xs ≡ attributes_of_body names body ++ rest
+    → take (attributes_counted (kind_number body) (named_length names body)) (drop (named_at at body) xs) ≡ attributes_of_body names body
 unfolding attributes_counted
-attributes_kept names (Heading level ix) = refl
-attributes_kept names _ = refl
+attributes_kept names at (Heading level ix) xs rest h =
+    ap (take (length (attributes_of_body names (Heading level ix)))) h ∙ take-append_seam (attributes_of_body names (Heading level ix)) rest
+attributes_kept names at _ xs rest h = refl

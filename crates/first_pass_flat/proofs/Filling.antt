@@ -87,23 +87,16 @@ in_set xs i j y x e ne =
     let is : get_or xs j x ≡ x = sym (get_or-set_other xs i j y x ne) ∙ get_or_from_slice_get (set xs i y) j x x e in
     slice_get-get_or xs j x (omega arith) ∙ ap Some is
 
-at_set : {X : Type 0} (xs : List X) (i : ℕ) (y x : X) → i < length xs → slice_get (set xs i y) i ≡ Some x → y ≡ x
-at_set xs i y x h e = sym (get_or-set_same xs i y x h) ∙ get_or_from_slice_get (set xs i y) i x x e
-
-same_at : (nodes : List (ℕ × Item)) (k : ℕ) (n m : ℕ × Item) → slice_get nodes k ≡ Some n → slice_get nodes k ≡ Some m → n ≡ m
-same_at nodes k n m e f = cc
-
 -- the links of the records after one more is written
 linked_more : (nodes : List (ℕ × Item)) (flat : List FlatNode) (k : ℕ) (n : ℕ × Item) (r : FlatNode) → k < length flat → slice_get nodes k ≡ Some n
     → r.next ≡ (k + 1) + deeper_before n.0 (drop (k + 1) nodes) → AreLinked nodes flat (k + 1) → AreLinked nodes (set flat k r) k
 linked_more nodes flat k n r room here next_is linked j m s low e f =
     elim (cases_eq j k) [
       | inl same ↦
-          let there = subst (λ i. slice_get (set flat k r) i ≡ Some s) same f in
-          let here' = subst (λ i. slice_get nodes i ≡ Some m) same e in
-          ap (λ (x : FlatNode). x.next) (sym (at_set flat k r s room there)) ∙ next_is
-          ∙ ap (λ (x : ℕ × Item). (k + 1) + deeper_before x.0 (drop (k + 1) nodes)) (same_at nodes k n m here here')
-          ∙ ap (λ i. (i + 1) + deeper_before m.0 (drop (i + 1) nodes)) (sym same)
+          let there : slice_get nodes j ≡ Some n = ap (slice_get nodes) same ∙ here in
+          let node : m ≡ n = cc in
+          let row : r ≡ s = sym (get_or-set_same flat k r s room) ∙ get_or_from_slice_get (set flat k r) k s s (ap (slice_get (set flat k r)) (sym same) ∙ f) in
+          rw (← row, node, same) next_is
       | inr other ↦ linked j m s (omega arith) e (in_set flat k j r s f other)
     ]
 

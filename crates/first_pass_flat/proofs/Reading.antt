@@ -1,6 +1,6 @@
 -- The flat form read back.
 use Rattle.std.proofs.Common.{◌≡◌, ℕ, ◌+◌, Option, Some, None, List, [], ◌∷◌, ◌++◌, length, map, take, drop, unwrap_or, refl, sym, ap, ◌∙◌, cond}
-use Rattle.std.proofs.Common.{append_assoc, is_some, flat_map, append-nil}
+use Rattle.std.proofs.Common.{append_assoc, is_some, flat_map, append-nil, drop-drop}
 use Rattle.first_pass_grammar.proofs.Common.{take-append_seam, drop-append_seam, Item, Names, Named, AreNamed, read_nodes, LinkEntry, Tables}
 use Rattle.first_pass_flat.specs.Kinds.{flag}
 use Rattle.first_pass_flat.specs.FlatAttributes.{OneAttribute, attribute_bytes, attributes_by, attributes_of_body, flat_attributes}
@@ -13,67 +13,38 @@ use Rattle.first_pass_flat.specs.declared.nodes.FlatPlace.{FlatPlace}
 use Rattle.first_pass_flat.specs.declared.records.FlatAttribute.{FlatAttribute}
 use Rattle.first_pass_flat.specs.declared.records.FlatDefinition.{FlatDefinition}
 use Rattle.first_pass_flat.specs.declared.records.FlatNode.{FlatNode}
-use Rattle.first_pass_flat.proofs.Bodies.{is_set, body_from, body_kept, named_from, named_kept, bytes_named, bytes_counted, attributes_counted}
-use Rattle.first_pass_flat.proofs.Bodies.{attributes_kept}
+use Rattle.first_pass_flat.proofs.Bodies.{is_set, body_from, body_kept, named_from, named_kept, bytes_named, name_kept, attributes_counted, attributes_kept}
 
-module _ {X : Type 0} where
-  -- the first part of bytes that are grouped otherwise, and the rest
-  front : (n : ℕ) (x y z : List X) → n ≡ length x → take n ((x ++ y) ++ z) ≡ x
-  front n x y z e = ap (λ k. take k ((x ++ y) ++ z)) e ∙ ap (λ l. take (length x) l) (append_assoc x y z) ∙ take-append_seam x (y ++ z)
-
-  after_front : (n : ℕ) (x y z : List X) → n ≡ length x → drop n ((x ++ y) ++ z) ≡ y ++ z
-  after_front n x y z e = ap (λ k. drop k ((x ++ y) ++ z)) e ∙ ap (λ l. drop (length x) l) (append_assoc x y z) ∙ drop-append_seam x (y ++ z)
-
--- the bytes and the attributes of a record
-abbrev bytes_of : FlatNode → ℕ
-bytes_of r = bytes_named r.kind r.name_length
-
-abbrev count_of : FlatNode → ℕ
-count_of r = attributes_counted r.kind r.name_length
+-- a list from an offset on, without its first part
+past_first : {X : Type 0} (whole first rest : List X) (at : ℕ) → drop at whole ≡ first ++ rest → drop (at + length first) whole ≡ rest
+past_first whole first rest at h = sym (drop-drop (length first) at whole) ∙ ap (drop (length first)) h ∙ drop-append_seam first rest
 
 values_in : FlatNode → FlatValues
 values_in r = record { number = r.number; first = r.first; second = r.second; third = r.third }
 
--- a node from its record, its bytes and its attributes
-node_from : FlatNode → List ℕ → List OneAttribute → ℕ × (Item × Option Named)
-node_from r bytes xs = (r.depth, (record { start = r.start; «end» = r.«end»; body = body_from r.kind (values_in r) }, named_from r.kind r.second bytes xs))
+-- a node from its record, among these bytes and these attributes
+node_from : List ℕ → List OneAttribute → FlatNode → ℕ × (Item × Option Named)
+node_from bytes xs r = (
+  r.depth,
+  (
+    record { start = r.start; «end» = r.«end»; body = body_from r.kind (values_in r) },
+    named_from r.kind r.second (take (bytes_named r.kind r.name_length) (drop r.name bytes)) (take (attributes_counted r.kind r.name_length) (drop r.name xs)),
+  ),
+)
 
-pub nodes_from : List FlatNode → List ℕ → List OneAttribute → List (ℕ × (Item × Option Named))
-nodes_from [] bytes xs = []
-nodes_from (r ∷ rs) bytes xs =
-    node_from r (take (bytes_of r) bytes) (take (count_of r) xs) ∷ nodes_from rs (drop (bytes_of r) bytes) (drop (count_of r) xs)
-
--- the bytes after those of nodes
-pub bytes_after : List FlatNode → List ℕ → List ℕ
-bytes_after [] bytes = bytes
-bytes_after (r ∷ rs) bytes = bytes_after rs (drop (bytes_of r) bytes)
-
-pub nodes_kept : (names : Names) (at : FlatPlace) (nodes : List (ℕ × Item)) (bytes : List ℕ) (xs : List OneAttribute) → AreNamed names nodes
-    → nodes_from (flat_nodes names at nodes) (flat_map (name_by names) nodes ++ bytes) (flat_map (attributes_by names) nodes ++ xs) ≡ read_nodes names nodes
-unfolding flat_nodes nodes_from node_from values_in AreNamed
-nodes_kept names at [] bytes xs h = refl
-nodes_kept names at (n ∷ nodes) bytes xs h =
-    let more = place_after names n.1.body at in
-    let c = bytes_counted names n.1.body in
-    let d = attributes_kept names n.1.body in
-    let b = flat_map (name_by names) nodes in
-    let a = flat_map (attributes_by names) nodes in
-    let kind = body_kept n.1.body in
-    let name = front _ (name_of names n.1.body) b bytes c in
-    let attributes = front _ (attributes_of_body names n.1.body) a xs d in
-    let names_left = after_front _ (name_of names n.1.body) b bytes c in
-    let attributes_left = after_front _ (attributes_of_body names n.1.body) a xs d in
-    rw (kind, name, attributes, named_kept names n.1.body h.0, names_left, attributes_left, nodes_kept names more nodes bytes xs h.1) refl
-
-pub bytes_kept : (names : Names) (at : FlatPlace) (nodes : List (ℕ × Item)) (bytes : List ℕ)
-    → bytes_after (flat_nodes names at nodes) (flat_map (name_by names) nodes ++ bytes) ≡ bytes
-unfolding flat_nodes bytes_after
-bytes_kept names at [] bytes = refl
-bytes_kept names at (n ∷ nodes) bytes =
-    let more = place_after names n.1.body at in
-    ap (λ b. bytes_after (flat_nodes names more nodes) b)
-    (after_front _ (name_of names n.1.body) (flat_map (name_by names) nodes) bytes (bytes_counted names n.1.body))
-    ∙ bytes_kept names more nodes bytes
+nodes_kept : (names : Names) (at : FlatPlace) (nodes : List (ℕ × Item)) (bytes others : List ℕ) (xs more : List OneAttribute)
+    → drop at.name bytes ≡ flat_map (name_by names) nodes ++ others → drop at.attribute xs ≡ flat_map (attributes_by names) nodes ++ more
+    → AreNamed names nodes → map (node_from bytes xs) (flat_nodes names at nodes) ≡ read_nodes names nodes
+unfolding flat_nodes node_from values_in AreNamed
+nodes_kept names at [] bytes others xs more h k named = refl
+nodes_kept names at (n ∷ nodes) bytes others xs more h k named =
+    let body = n.1.body in
+    let name : drop at.name bytes ≡ name_of names body ++ (flat_map (name_by names) nodes ++ others) =
+    h ∙ append_assoc (name_of names body) (flat_map (name_by names) nodes) others in
+    let given : drop at.attribute xs ≡ attributes_of_body names body ++ (flat_map (attributes_by names) nodes ++ more) =
+    k ∙ append_assoc (attributes_of_body names body) (flat_map (attributes_by names) nodes) more in
+    let rest = nodes_kept names (place_after names body at) nodes bytes others xs more (past_first _ _ _ _ name) (past_first _ _ _ _ given) named.1 in
+    rw (body_kept body, name_kept names at body bytes _ name, attributes_kept names at body xs _ given, named_kept names body named.0, rest) refl
 
 -- a text that may be missing, from its mark
 text_from : ℕ → List ℕ → Option (List ℕ)
@@ -82,156 +53,91 @@ text_from there bytes = cond (is_set there) (Some bytes) None
 text_kept : (o : Option (List ℕ)) → text_from (flag (is_some o)) (unwrap_or o []) ≡ o
 unfolding text_from
 text_kept None = refl
-text_kept (Some bytes) = refl
+text_kept _ = refl
 
--- an attribute from its record and its bytes
-attribute_from : FlatAttribute → List ℕ → OneAttribute
-attribute_from r bytes =
-    record { kind = r.kind; name = take r.name_length bytes; value = text_from r.has_value (take r.value_length (drop r.name_length bytes)) }
+-- an attribute from its record, among these bytes
+attribute_from : List ℕ → FlatAttribute → OneAttribute
+attribute_from bytes r =
+    record { kind = r.kind; name = take r.name_length (drop r.name bytes); value = text_from r.has_value (take r.value_length (drop r.value bytes)) }
 
-pub attributes_read : List FlatAttribute → List ℕ → List OneAttribute
-attributes_read [] bytes = []
-attributes_read (r ∷ rs) bytes = attribute_from r bytes ∷ attributes_read rs (drop r.value_length (drop r.name_length bytes))
-
-pub left_by_attributes : List FlatAttribute → List ℕ → List ℕ
-left_by_attributes [] bytes = bytes
-left_by_attributes (r ∷ rs) bytes = left_by_attributes rs (drop r.value_length (drop r.name_length bytes))
-
--- bytes in three parts
-three : (a b c d : List ℕ) → ((a ++ b) ++ c) ++ d ≡ (a ++ (b ++ c)) ++ d
-three a b c d = ap (λ l. l ++ d) (append_assoc a b c)
-
-first_part : (a b c d : List ℕ) → take (length a) (((a ++ b) ++ c) ++ d) ≡ a
-first_part a b c d = ap (λ l. take (length a) l) (three a b c d) ∙ front _ a (b ++ c) d refl
-
-beyond_first : (a b c d : List ℕ) → drop (length a) (((a ++ b) ++ c) ++ d) ≡ (b ++ c) ++ d
-beyond_first a b c d = ap (λ l. drop (length a) l) (three a b c d) ∙ after_front _ a (b ++ c) d refl
-
-second_part : (a b c d : List ℕ) → take (length b) (drop (length a) (((a ++ b) ++ c) ++ d)) ≡ b
-second_part a b c d = ap (λ l. take (length b) l) (beyond_first a b c d) ∙ front _ b c d refl
-
-beyond_second : (a b c d : List ℕ) → drop (length b) (drop (length a) (((a ++ b) ++ c) ++ d)) ≡ c ++ d
-beyond_second a b c d = ap (λ l. drop (length b) l) (beyond_first a b c d) ∙ after_front _ b c d refl
-
-pub attributes_back : (at : ℕ) (xs : List OneAttribute) (bytes : List ℕ)
-    → attributes_read (flat_attributes at xs) (flat_map attribute_bytes xs ++ bytes) ≡ xs
-unfolding flat_attributes attributes_read attribute_from
-attributes_back at [] bytes = refl
-attributes_back at (x ∷ xs) bytes =
+attributes_back : (at : ℕ) (xs : List OneAttribute) (bytes others : List ℕ) → drop at bytes ≡ flat_map attribute_bytes xs ++ others
+    → map (attribute_from bytes) (flat_attributes at xs) ≡ xs
+unfolding flat_attributes attribute_from
+attributes_back at [] bytes others h = refl
+attributes_back at (x ∷ xs) bytes others h =
     let v = unwrap_or x.value [] in
-    let more = flat_map attribute_bytes xs in
-    let name = first_part x.name v more bytes in
-    let value = ap (text_from (flag (is_some x.value))) (second_part x.name v more bytes) ∙ text_kept x.value in
-    let rest =
-    ap (attributes_read (flat_attributes (at + length (attribute_bytes x)) xs)) (beyond_second x.name v more bytes)
-    ∙ attributes_back (at + length (attribute_bytes x)) xs bytes in
-    rw (name, value, rest) refl
+    let later = flat_map attribute_bytes xs ++ others in
+    let name : drop at bytes ≡ x.name ++ (v ++ later) = h ∙ simp append_assoc in
+    let value = past_first bytes x.name (v ++ later) at name in
+    let rest = attributes_back (at + length (attribute_bytes x)) xs bytes others
+    (past_first bytes (attribute_bytes x) later at (h ∙ append_assoc (attribute_bytes x) (flat_map attribute_bytes xs) others)) in
+    rw (name, value, take-append_seam x.name (v ++ later), take-append_seam v later, text_kept x.value, rest) refl
 
-pub after_attributes : (at : ℕ) (xs : List OneAttribute) (bytes : List ℕ)
-    → left_by_attributes (flat_attributes at xs) (flat_map attribute_bytes xs ++ bytes) ≡ bytes
-unfolding flat_attributes left_by_attributes
-after_attributes at [] bytes = refl
-after_attributes at (x ∷ xs) bytes =
-    ap (left_by_attributes (flat_attributes (at + length (attribute_bytes x)) xs))
-    (beyond_second x.name (unwrap_or x.value []) (flat_map attribute_bytes xs) bytes)
-    ∙ after_attributes (at + length (attribute_bytes x)) xs bytes
-
--- a definition from its record and its bytes
-definition_from : FlatDefinition → List ℕ → LinkEntry
-definition_from r bytes = record {
-  label = take r.label_length bytes;
-  dest = take r.destination_length (drop r.label_length bytes);
-  title = text_from r.has_title (take r.title_length (drop r.destination_length (drop r.label_length bytes)));
+-- a definition from its record, among these bytes
+definition_from : List ℕ → FlatDefinition → LinkEntry
+definition_from bytes r = record {
+  label = take r.label_length (drop r.label bytes);
+  dest = take r.destination_length (drop r.destination bytes);
+  title = text_from r.has_title (take r.title_length (drop r.title bytes));
   start = r.start;
   «end» = r.«end»;
   places = record { label_end = r.label_end; dest_start = r.destination_start; dest_end = r.destination_end; title_start = r.title_start };
 }
 
-pub definitions_read : List FlatDefinition → List ℕ → List LinkEntry
-definitions_read [] bytes = []
-definitions_read (r ∷ rs) bytes =
-    definition_from r bytes ∷ definitions_read rs (drop r.title_length (drop r.destination_length (drop r.label_length bytes)))
-
--- bytes in four parts
-four : (a b c d e : List ℕ) → (((a ++ b) ++ c) ++ d) ++ e ≡ ((a ++ b) ++ (c ++ d)) ++ e
-four a b c d e = ap (λ l. l ++ e) (append_assoc (a ++ b) c d)
-
-label_part : (a b c d e : List ℕ) → take (length a) ((((a ++ b) ++ c) ++ d) ++ e) ≡ a
-label_part a b c d e = ap (take (length a)) (four a b c d e) ∙ first_part a b (c ++ d) e
-
-destination_part : (a b c d e : List ℕ) → take (length b) (drop (length a) ((((a ++ b) ++ c) ++ d) ++ e)) ≡ b
-destination_part a b c d e = ap (λ l. take (length b) (drop (length a) l)) (four a b c d e) ∙ second_part a b (c ++ d) e
-
-beyond_destination : (a b c d e : List ℕ) → drop (length b) (drop (length a) ((((a ++ b) ++ c) ++ d) ++ e)) ≡ (c ++ d) ++ e
-beyond_destination a b c d e = ap (λ l. drop (length b) (drop (length a) l)) (four a b c d e) ∙ beyond_second a b (c ++ d) e
-
-title_part : (a b c d e : List ℕ) → take (length c) (drop (length b) (drop (length a) ((((a ++ b) ++ c) ++ d) ++ e))) ≡ c
-title_part a b c d e = ap (take (length c)) (beyond_destination a b c d e) ∙ front _ c d e refl
-
-beyond_title : (a b c d e : List ℕ) → drop (length c) (drop (length b) (drop (length a) ((((a ++ b) ++ c) ++ d) ++ e))) ≡ d ++ e
-beyond_title a b c d e = ap (drop (length c)) (beyond_destination a b c d e) ∙ after_front _ c d e refl
-
-pub definitions_back : (at : ℕ) (es : List LinkEntry) (bytes : List ℕ)
-    → definitions_read (flat_definitions at es) (flat_map definition_bytes es ++ bytes) ≡ es
-unfolding flat_definitions definitions_read definition_from
-definitions_back at [] bytes = refl
-definitions_back at (x ∷ es) bytes =
+definitions_back : (at : ℕ) (es : List LinkEntry) (bytes others : List ℕ) → drop at bytes ≡ flat_map definition_bytes es ++ others
+    → map (definition_from bytes) (flat_definitions at es) ≡ es
+unfolding flat_definitions definition_from
+definitions_back at [] bytes others h = refl
+definitions_back at (x ∷ es) bytes others h =
     let t = unwrap_or x.title [] in
-    let more = flat_map definition_bytes es in
-    let label = label_part x.label x.dest t more bytes in
-    let dest = destination_part x.label x.dest t more bytes in
-    let title = ap (text_from (flag (is_some x.title))) (title_part x.label x.dest t more bytes) ∙ text_kept x.title in
-    let rest =
-    ap (definitions_read (flat_definitions (at + length (definition_bytes x)) es)) (beyond_title x.label x.dest t more bytes)
-    ∙ definitions_back (at + length (definition_bytes x)) es bytes in
-    rw (label, dest, title, rest) refl
+    let later = flat_map definition_bytes es ++ others in
+    let label : drop at bytes ≡ x.label ++ (x.dest ++ (t ++ later)) = h ∙ simp append_assoc in
+    let dest = past_first bytes x.label (x.dest ++ (t ++ later)) at label in
+    let title = past_first bytes x.dest (t ++ later) (at + length x.label) dest in
+    let rest = definitions_back (at + length (definition_bytes x)) es bytes others
+    (past_first bytes (definition_bytes x) later at (h ∙ append_assoc (definition_bytes x) (flat_map definition_bytes es) others)) in
+    rw (
+      label,
+      dest,
+      title,
+      take-append_seam x.label (x.dest ++ (t ++ later)),
+      take-append_seam x.dest (t ++ later),
+      take-append_seam t later,
+      text_kept x.title,
+      rest,
+    ) refl
 
 -- the whole form read back
 attribute_list : FlatForm → List OneAttribute
-attribute_list f = attributes_read f.attributes (bytes_after f.nodes f.names)
+attribute_list f = map (attribute_from f.names) f.attributes
 
 tree_read : FlatForm → List (ℕ × (Item × Option Named))
-tree_read f = nodes_from f.nodes f.names (attribute_list f)
+tree_read f = map (node_from f.names (attribute_list f)) f.nodes
 
 entries_read : FlatForm → List LinkEntry
-entries_read f = definitions_read f.definitions (left_by_attributes f.attributes (bytes_after f.nodes f.names) ++ [])
+entries_read f = map (definition_from f.names) f.definitions
 
 tables_read : FlatForm → Tables
 tables_read f = record { links = take f.links (entries_read f); footnotes = map (λ (e : LinkEntry). e.label) (drop f.links (entries_read f)) }
 
-names_split : (names : Names) (nodes : List (ℕ × Item)) (tables : Tables)
-    → bytes_after (flat_form names nodes tables).nodes (flat_form names nodes tables).names
-    ≡ flat_map attribute_bytes (flat_map (attributes_by names) nodes) ++ flat_map definition_bytes (entries_of tables)
-names_split names nodes tables =
-    ap (bytes_after (flat_nodes names first_place nodes))
-    (append_assoc (node_names names nodes) (flat_map attribute_bytes (flat_map (attributes_by names) nodes)) (flat_map definition_bytes (entries_of tables)))
-    ∙ bytes_kept names first_place nodes _
-
-list_back : (names : Names) (nodes : List (ℕ × Item)) (tables : Tables)
-    → attribute_list (flat_form names nodes tables) ≡ flat_map (attributes_by names) nodes
-unfolding attribute_list
-list_back names nodes tables =
-    ap (attributes_read (flat_form names nodes tables).attributes) (names_split names nodes tables)
-    ∙ attributes_back (length (node_names names nodes)) (flat_map (attributes_by names) nodes) (flat_map definition_bytes (entries_of tables))
-
 tree_back : (names : Names) (nodes : List (ℕ × Item)) (tables : Tables) → AreNamed names nodes
     → tree_read (flat_form names nodes tables) ≡ read_nodes names nodes
-unfolding tree_read
-tree_back names nodes tables h =
+unfolding tree_read attribute_list
+tree_back names nodes tables named =
     let attributes = flat_map (attributes_by names) nodes in
     let definitions = flat_map definition_bytes (entries_of tables) in
-    let rs = flat_nodes names first_place nodes in
-    ap (λ bytes. nodes_from rs bytes (attribute_list (flat_form names nodes tables)))
-    (append_assoc (node_names names nodes) (flat_map attribute_bytes attributes) definitions)
-    ∙ ap (nodes_from rs _) (list_back names nodes tables ∙ sym (append-nil attributes)) ∙ nodes_kept names first_place nodes _ [] h
+    let parts = append_assoc (node_names names nodes) (flat_map attribute_bytes attributes) definitions in
+    let given = attributes_back (length (node_names names nodes)) attributes (flat_form names nodes tables).names definitions
+    (ap (drop (length (node_names names nodes))) parts ∙ drop-append_seam (node_names names nodes) _) in
+    nodes_kept names first_place nodes (flat_form names nodes tables).names _ (attribute_list (flat_form names nodes tables)) [] parts
+    (given ∙ sym (append-nil attributes)) named
 
 entries_back : (names : Names) (nodes : List (ℕ × Item)) (tables : Tables) → entries_read (flat_form names nodes tables) ≡ entries_of tables
 unfolding entries_read
 entries_back names nodes tables =
-    ap (λ b. definitions_read (flat_form names nodes tables).definitions (b ++ []))
-    (ap (left_by_attributes (flat_form names nodes tables).attributes) (names_split names nodes tables)
-    ∙ after_attributes (length (node_names names nodes)) (flat_map (attributes_by names) nodes) (flat_map definition_bytes (entries_of tables)))
-    ∙ definitions_back (length (tree_names names nodes)) (entries_of tables) []
+    let definitions = flat_map definition_bytes (entries_of tables) in
+    definitions_back (length (tree_names names nodes)) (entries_of tables) (flat_form names nodes tables).names []
+    (drop-append_seam (tree_names names nodes) definitions ∙ sym (append-nil definitions))
 
 labels_kept : (labels : List (List ℕ)) → map (λ (e : LinkEntry). e.label) (map label_entry labels) ≡ labels
 labels_kept [] = refl

@@ -1,6 +1,5 @@
 -- The other parts of the flat form, made one after the other.
-use Rattle.std.proofs.Common.{◌≡◌, ℕ, suc, ◌+◌, false, Option, Some, None, List, [], ◌∷◌, ◌++◌, length, map, slice_get, unwrap_or, refl, sym, ap, ◌∙◌}
-use Rattle.std.proofs.Common.{arith, is_some, option_map, true≢false, flat_map}
+use Rattle.std.proofs.Common.{◌≡◌, ℕ, suc, ◌+◌, Option, Some, None, List, [], ◌∷◌, ◌++◌, length, map, slice_get, unwrap_or, refl, ap, ◌∙◌, arith, flat_map}
 use Rattle.first_pass_grammar.proofs.Common.{slice_get_past, HeadingIndex, Item, no_attributes, LinkEntry, Names, Tables}
 use Rattle.first_pass_flat.specs.FlatAttributes.{attributes_at, attributes_by, attribute_bytes, heading_index, listed}
 use Rattle.first_pass_flat.specs.FlatDefinitions.{definition_bytes, flat_definitions, label_entry}
@@ -10,11 +9,6 @@ use Rattle.first_pass_flat.specs.Side.{AreSideTables}
 use Rattle.first_pass_flat.specs.declared.attributes.NamedAttributes.{NamedAttributes}
 use Rattle.first_pass_flat.specs.declared.definitions.NamedDefinitions.{NamedDefinitions}
 use Rattle.first_pass_flat.proofs.Appending.{definitions_more}
-
--- the image of no value is none
-pub none_by : {X Y : Type 0} (f : X → Y) (o : Option X) (s : Option Y) → is_some o ≡ false → option_map f o ≡ s → s ≡ None
-none_by f None s none is = sym is
-none_by f (Some x) s none is = absurd (true≢false none)
 
 -- a list without a first element is empty
 none_beyond : {X : Type 0} (xs : List X) (k : ℕ) → slice_get xs 0 ≡ None → slice_get xs k ≡ None

@@ -1,6 +1,5 @@
 -- Facts on the search for an end tag of raw text.
 use Rattle.std.proofs.Common.{◌≡◌, ℕ, zero, suc, ◌<◌, ◌≤◌, Bool, true, false, ◌==◌, ◌||◌, List, [], ◌∷◌, length, drop, get_or, refl, ap, ◌∙◌, arith}
-use Rattle.std.proofs.Common.{eqb-true}
 use Rattle.std.specs.Char.{to_ascii_lowercase}
 use Rattle.std.proofs.lemmas.Bool.{false_from_ne_true}
 use Rattle.std.proofs.lemmas.Bool.Decides.{nat_tests}
@@ -32,8 +31,7 @@ pub next_held : (bs : List ℕ) (at : ℕ) (t : Bool) → at < length bs → Non
     → begins_raw_end_tag (less_than ∷ drop (suc at) bs) ≡ t → holds_raw_end_tag bs ≡ (t || holds_raw_end_tag (drop (suc at) bs))
 unfolding holds_raw_end_tag
 next_held [] at t within none here is = absurd (omega arith)
-next_held (b ∷ bs) zero t within none here is =
-    ap (λ c. begins_raw_end_tag (c ∷ bs) || holds_raw_end_tag bs) (eqb-true b less_than here) ∙ ap (λ u. u || holds_raw_end_tag bs) is
+next_held (b ∷ bs) zero t within none here is = grind arith
 next_held (b ∷ bs) (suc at) t within none here is =
     ap (λ u. u || holds_raw_end_tag bs) (none_here b bs (false_from_ne_true (b == less_than) (none 0 (omega arith) (omega arith))))
     ∙ next_held bs at t (omega arith) (λ k low high. none (suc k) (omega arith) (omega arith)) here is

@@ -21,9 +21,7 @@ word_from p [] h some = absurd (omega arith)
 word_from p (b ∷ bs) h some = h
 
 word_front : (p : ℕ → Bool) (bs : List ℕ) → (prefix_len p bs == 0) ≡ false → is_word p p (take (prefix_len p bs) bs) ≡ true
-word_front p bs h =
-    let size = length-prefix_len p bs in
-    word_from p (take (prefix_len p bs) bs) (prefix_passes p bs) (grind (arith, nat_tests, size, h))
+word_front p bs h = grind (arith, length-prefix_len, word_from, prefix_passes, nat_tests)
 
 pub name_front : (first other : ℕ → Bool) (bs : List ℕ) (n : ℕ) → word_len first other bs ≡ Some n → is_word first other (take n bs) ≡ true
 name_front first other [] n h = cc

@@ -31,8 +31,7 @@ front_within name bs h =
     omega (arith, length-take (length name) bs)
 
 front_stands : (name bs front rest : List ℕ) → bs ≡ front ++ rest → in_lower_case front ≡ in_lower_case name → begins_with_name name bs ≡ true
-front_stands name bs front rest parts same =
-    eq_from _ _ (ap in_lower_case (front_of (length name) bs front rest parts (sym (same_length front name same))) ∙ same)
+front_stands name bs front rest parts same = grind (arith, eq_from, front_of, same_length)
 
 -- all these names are names of blocks
 abbrev all_names : List (List ℕ) → Bool
@@ -122,15 +121,7 @@ group_at c names b bs (d ∷ front) rest longer all letter parts block =
 pub group_longest : (c : ℕ) (names : List (List ℕ)) (bs : List ℕ) (letter n : ℕ)
     → 1 ≤ length bs → letter ≡ to_ascii_lowercase (get_or bs 0 0) → letter ≡ c → n ≡ first_name_len names bs → is_group c names ≡ true → IsLongestName bs n
 group_longest c names [] letter n some lower is found group = absurd (omega arith)
-group_longest c names (b ∷ bs) letter n some lower is found group =
-    let parts = and_parts (all_names names) _ group in
-    let others = and_parts (longer_first names) _ parts.1 in
-    let name = found_name names (b ∷ bs) parts.0 in
-    subst (IsLongestName (b ∷ bs)) (sym found) (record {
-      within = name.0;
-      is_name = name.1;
-      longest = λ front rest whole block. group_at c names b bs front rest others.0 others.1 (sym lower ∙ is) whole block;
-    })
+group_longest c names (b ∷ bs) letter n some lower is found group = grind (arith, and_parts, found_name, group_at)
 
 -- the first letters of the names of blocks
 abbrev pub name_letters : List ℕ
@@ -149,11 +140,7 @@ other_at b bs (d ∷ front) rest none parts block =
 pub other_longest : (bs : List ℕ) (letter : ℕ)
     → 1 ≤ length bs → letter ≡ to_ascii_lowercase (get_or bs 0 0) → list_any (λ c. letter == c) name_letters ≡ false → IsLongestName bs 0
 other_longest [] letter some lower none = absurd (omega arith)
-other_longest (b ∷ bs) letter some lower none = record {
-  within = omega arith;
-  is_name = λ some. absurd (omega arith);
-  longest = λ front rest whole block. other_at b bs front rest (ap (λ a. list_any (λ c. a == c) name_letters) (sym lower) ∙ none) whole block;
-}
+other_longest (b ∷ bs) letter some lower none = grind (arith, other_at)
 
 -- the bytes are the name of a block exactly if the longest one at their start has their length
 pub whole_name : (name : List ℕ) (n : ℕ) → IsLongestName name n → 0 < n → IsTrue (n == length name) ↔ IsBlockName name

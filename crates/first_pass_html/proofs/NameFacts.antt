@@ -1,6 +1,6 @@
 -- Facts on the names of blocks, and on the end of such a name.
 use Rattle.std.proofs.Common.{◌≡◌, ◌↔◌, ℕ, ◌<◌, ◌≤◌, Bool, true, false, ◌==◌, ◌&&◌, ◌||◌, IsTrue, List, [], ◌∷◌, ◌++◌, length, take, drop, refl, sym, ap}
-use Rattle.std.proofs.Common.{◌∙◌, subst, arith, nat_lt, Contains, take-append-drop, length-take-le}
+use Rattle.std.proofs.Common.{◌∙◌, arith, nat_lt, Contains, take-append-drop, length-take-le}
 use Rattle.std.specs.List.{list_all, prefix_len}
 use Rattle.std.specs.Char.{to_ascii_lowercase, is_ascii_alphanumeric}
 use Rattle.std.proofs.lemmas.Bool.{and_from, and_parts}
@@ -50,9 +50,7 @@ name_size bs h = front_size is_ascii_alphanumeric bs h.name h.rest h.parts (bloc
 -- if the bytes begin with the name of a block that ends there, it is all leading letters and digits
 pub name_found : (bs : List ℕ) (n : ℕ)
     → n ≡ prefix_len is_ascii_alphanumeric bs → HasBlockName bs → IsBlockName (take n bs) × (ends_block_name (drop n bs) ≡ true)
-name_found bs n e h =
-    let size : n ≡ length h.name = e ∙ name_size bs h in
-    (subst IsBlockName (sym (front_of n bs h.name h.rest h.parts size)) h.is_name, ap ends_block_name (rest_after n bs h.name h.rest h.parts size) ∙ h.ends)
+name_found bs n e h = grind (arith, name_size, front_of, rest_after)
 
 -- if the bytes begin with the name of a block that ends there, it is the longest one at the start
 longest_size : (bs : List ℕ) (n : ℕ) → IsLongestName bs n → 0 < n → (h : HasBlockName bs) → n ≡ length h.name
@@ -72,7 +70,4 @@ has_name_then bs n ends found some end = (
 )
 
 pub has_name_else : (bs : List ℕ) (n : ℕ) → IsLongestName bs n → n ≤ 0 → IsTrue (nat_lt 0 n) ↔ HasBlockName bs
-has_name_else bs n found none = (
-  λ t. absurd (grind (arith, nat_tests, t, none)),
-  λ h. let long = found.longest h.name h.rest h.parts h.is_name in let some = name_some h.name h.is_name in absurd (omega arith),
-)
+has_name_else bs n found none = grind (arith, nat_tests, name_some)

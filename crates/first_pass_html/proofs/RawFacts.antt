@@ -1,6 +1,6 @@
 -- Facts on the end conditions of HTML blocks of types 1 to 5, by the first byte of the start condition.
 use Rattle.std.proofs.Common.{◌≡◌, ℕ, ◌<◌, ◌≤◌, Bool, true, false, ◌==◌, ◌&&◌, ◌||◌, List, [], ◌∷◌, length, take, drop, get_or, bytes_eq, if◌then◌else◌}
-use Rattle.std.proofs.Common.{inl, inr, codes, Some, None, refl, sym, ap, ◌∙◌, subst, arith, take-append-drop, length-take-le}
+use Rattle.std.proofs.Common.{codes, Some, None, refl, sym, ap, ◌∙◌, subst, arith, take-append-drop, length-take-le}
 use Rattle.std.specs.List.{list_all, list_any, prefix_len}
 use Rattle.std.specs.Char.{to_ascii_lowercase, is_ascii_alphabetic}
 use Rattle.std.proofs.lemmas.Bool.{and_parts, and_from, cases_Bool}
@@ -37,20 +37,7 @@ raw_size name bs letters is ends =
 raw_here : (name bs : List ℕ) → list_all is_ascii_alphabetic (in_lower_case name) ≡ true
     → let n : ℕ = prefix_len is_ascii_alphabetic bs in
     begins_raw name bs ≡ (ends_raw_name (drop n bs) && bytes_eq (in_lower_case (take n bs)) (in_lower_case name))
-raw_here name bs letters =
-    let n : ℕ = prefix_len is_ascii_alphabetic bs in
-    same_from_decides (begins_raw name bs) (ends_raw_name (drop n bs) && bytes_eq (in_lower_case (take n bs)) (in_lower_case name)) (
-      λ h.
-          let both = and_parts (begins_with_name name bs) (ends_raw_name (drop (length name) bs)) h in
-          let size = sym (raw_size name bs letters both.0 both.1) in
-          and_from _ _ (ap (λ k. ends_raw_name (drop k bs)) (sym size) ∙ both.1)
-          (ap (λ k. bytes_eq (in_lower_case (take k bs)) (in_lower_case name)) (sym size) ∙ both.0),
-      λ h.
-          let both = and_parts (ends_raw_name (drop n bs)) (bytes_eq (in_lower_case (take n bs)) (in_lower_case name)) h in
-          let size : n ≡ length name = sym (length-prefix_len is_ascii_alphabetic bs) ∙ same_length (take n bs) name ((bytes_eq-Decides _ _).0 both.1) in
-          and_from _ _ (ap (λ k. bytes_eq (in_lower_case (take k bs)) (in_lower_case name)) (sym size) ∙ both.1)
-          (ap (λ k. ends_raw_name (drop k bs)) (sym size) ∙ both.0),
-    ) (λ t. t, λ t. t)
+raw_here name bs letters = grind (arith, same_from_decides, and_parts, raw_size, and_from, length-prefix_len, same_length, bytes_eq-Decides)
 
 -- the names of raw text one by one
 one_by_one : (ends : Bool) (name : List ℕ) → let is = λ (raw : List ℕ). ends && bytes_eq (in_lower_case name) raw in
@@ -71,30 +58,20 @@ raw_begins bs =
 raw_differs : (c letter : ℕ) (name bs : List ℕ) → 1 ≤ length bs → letter ≡ to_ascii_lowercase (get_or bs 0 0)
     → (letter == to_ascii_lowercase c) ≡ false → begins_raw (c ∷ name) bs ≡ false
 raw_differs c letter name [] some lower other = absurd (omega arith)
-raw_differs c letter name (b ∷ bs) some lower other =
-    let differs : (to_ascii_lowercase b == to_ascii_lowercase c) ≡ false = ap (λ a. a == to_ascii_lowercase c) (sym lower) ∙ other in rw differs refl
+raw_differs c letter name (b ∷ bs) some lower other = grind arith
 
 raw_first : (c letter : ℕ) (name bs : List ℕ) → 1 ≤ length bs → letter ≡ to_ascii_lowercase (get_or bs 0 0)
     → begins_raw (c ∷ name) bs ≡ ((letter == to_ascii_lowercase c) && begins_raw (c ∷ name) bs)
-raw_first c letter name bs some lower = elim (cases_Bool (letter == to_ascii_lowercase c)) [
-  | inl e ↦ ap (λ t. t && begins_raw (c ∷ name) bs) (sym e)
-  | inr e ↦ raw_differs c letter name bs some lower e ∙ ap (λ t. t && begins_raw (c ∷ name) bs) (sym e)
-]
+raw_first c letter name bs some lower = grind (arith, cases_Bool, raw_differs)
 
 four_by : (p s t x p1 s1 t1 x1 : Bool) → p ≡ p1 → s ≡ s1 → t ≡ t1 → x ≡ x1 → (p || (s || (t || x))) ≡ (p1 || (s1 || (t1 || x1)))
 four_by p s t x p1 s1 t1 x1 e f g h = rw e (rw f (rw g (rw h refl)))
-
-pub or_false : (t : Bool) → (t || false) ≡ t
-or_false true = refl
-or_false false = refl
 
 -- raw text begins here only with a name that has its first letter
 pub raw_by_letter : (bs : List ℕ) (letter : ℕ) → 1 ≤ length bs → letter ≡ to_ascii_lowercase (get_or bs 0 0)
     → let is = λ (c : ℕ) (name : List ℕ). (letter == c) && begins_raw (c ∷ name) bs in
     begins_raw_text bs ≡ (is 112 (codes "re") || (is 115 (codes "cript") || (is 115 (codes "tyle") || is 116 (codes "extarea"))))
-raw_by_letter bs letter some lower =
-    raw_begins bs ∙ four_by _ _ _ _ _ _ _ _ (raw_first 112 letter (codes "re") bs some lower) (raw_first 115 letter (codes "cript") bs some lower)
-    (raw_first 115 letter (codes "tyle") bs some lower) (raw_first 116 letter (codes "extarea") bs some lower)
+raw_by_letter bs letter some lower = grind (arith, raw_begins, four_by, raw_first)
 
 pub raw_in_none : (bs : List ℕ) → length bs < 1 → begins_raw_text bs ≡ false
 unfolding begins_raw_text is_raw_name
@@ -111,10 +88,7 @@ pub other_end : (bs : List ℕ) (t : Bool)
     → 1 ≤ length bs → list_any (λ c. get_or bs 0 0 == c) (33 ∷ 63 ∷ []) ≡ false → begins_raw_text bs ≡ t → html_end bs ≡ (if t then Some AtRawEndTag else None)
 unfolding html_end
 other_end [] t some other raw = absurd (omega arith)
-other_end (b ∷ bs) t some other raw =
-    let no_bang : (33 == b) ≡ false = grind (arith, nat_tests, other) in
-    let no_question : (63 == b) ≡ false = grind (arith, nat_tests, other) in
-    rw (no_bang, no_question, raw) refl
+other_end (b ∷ bs) t some other raw = grind (arith, nat_tests)
 
 pub no_end : (bs : List ℕ) → length bs < 1 → html_end bs ≡ None
 unfolding html_end begins_raw_text is_raw_name

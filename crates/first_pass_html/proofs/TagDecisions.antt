@@ -1,15 +1,14 @@
 -- Either the bytes begin with a tag of start condition 7 of HTML blocks, or they begin with none.
-use Rattle.std.proofs.Common.{◌≡◌, ◌⊎◌, inl, inr, ℕ, zero, suc, ◌+◌, ◌<◌, ◌≤◌, false, ◌==◌, List, ◌∷◌, length, take, drop, Option, Some, None, refl, ap}
-use Rattle.std.proofs.Common.{◌∙◌, arith, option_map, is_some, length-drop}
-use Rattle.std.specs.List.{prefix_len}
+use Rattle.std.proofs.Common.{◌≡◌, ◌⊎◌, inl, inr, ℕ, zero, suc, ◌+◌, ◌<◌, ◌≤◌, false, List, ◌∷◌, length, take, drop, Option, Some, None, refl, ap}
+use Rattle.std.proofs.Common.{◌∙◌, arith, is_some, length-drop}
 use Rattle.std.proofs.lemmas.Bool.{cases_Bool}
 use Rattle.std.proofs.lemmas.Bool.Decides.{nat_tests}
 use Rattle.std.proofs.lemmas.List.Sums.{prefix_len-le-length}
 use Rattle.first_pass_items.specs.Bytes.{solidus, less_than}
-use Rattle.first_pass_lines.specs.Lines.{begins, blank_len, is_space_or_tab}
+use Rattle.first_pass_lines.specs.Lines.{begins, blank_len}
 use Rattle.first_pass_html.specs.Starts.{is_raw_name}
 use Rattle.first_pass_html.specs.Tags.{IsAfterOpening, IsAfterClosing, IsBlockTag, BeginsTagLine}
-use Rattle.first_pass_html.specs.TagLengths.{tag_name_len, named_len, attribute_len, open_end_len, closing_end_len}
+use Rattle.first_pass_html.specs.TagLengths.{tag_name_len, attribute_len, open_end_len, closing_end_len}
 use Rattle.first_pass_html.specs.Fronts.{IsOnlyFront, HasNoFront, IsPastAttributes}
 use Rattle.first_pass_lines.proofs.OptionFacts.{some_mapped, some_unless}
 use Rattle.first_pass_html.proofs.FrontFacts.{first_byte}
@@ -20,19 +19,14 @@ use Rattle.first_pass_html.proofs.WholeTagFacts.{needs_bracket, tag_line_none, t
 -- an attribute is not empty
 attribute_some : (bs : List ℕ) (n : ℕ) → attribute_len bs ≡ Some n → (0 < n) × (0 < length bs)
 unfolding attribute_len
-attribute_some bs n h =
-    let k : ℕ = prefix_len is_space_or_tab bs in
-    let both = some_unless (k == 0) (option_map (λ j. k + j) (named_len (drop k bs))) n h in
-    let m = some_mapped (λ j. k + j) (named_len (drop k bs)) n both.1 in
-    let fits = prefix_len-le-length is_space_or_tab bs in
-    let some : 0 < k = grind (arith, nat_tests, both.0) in
-    (omega (arith, m.2), omega arith)
+attribute_some bs n h = grind (arith, some_unless, some_mapped, prefix_len-le-length, nat_tests)
 
--- the attributes at the start of the bytes
+-- an option is empty or has a value
 by_option : {P : Type 0} (o : Option ℕ) → (o ≡ None → P) → ((n : ℕ) → o ≡ Some n → P) → P
 by_option None none some = none refl
 by_option (Some n) none some = some n refl
 
+-- the attributes at the start of the bytes
 past_up_to : (most : ℕ) (bs : List ℕ) → length bs ≤ most → (a : ℕ) × IsPastAttributes bs a
 past_up_to zero bs h =
     by_option (attribute_len bs) (λ e. (0, past_none bs e)) (λ n e. let some = (attribute_some bs n e).1 in absurd (omega arith))

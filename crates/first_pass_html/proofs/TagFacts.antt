@@ -1,6 +1,6 @@
 -- The parts of a tag at the start of the bytes have the counted lengths.
 use Rattle.std.proofs.Common.{◌≡◌, ◌⊎◌, inl, inr, ℕ, ◌+◌, Bool, true, false, true≢false, ◌==◌, ◌||◌, List, [], ◌∷◌, ◌++◌, length, drop, Option, Some, None}
-use Rattle.std.proofs.Common.{refl, sym, ap, ◌∙◌, arith, append_assoc, length-append, eq-eqb}
+use Rattle.std.proofs.Common.{refl, sym, ap, ◌∙◌, arith, append_assoc, length-append}
 use Rattle.std.specs.List.{prefix_len, list_all, concat}
 use Rattle.std.proofs.lemmas.Bool.{and_parts, cond_both}
 use Rattle.std.proofs.lemmas.Bool.Decides.{nat_tests}
@@ -9,7 +9,7 @@ use Rattle.first_pass_items.specs.Bytes.{quotation_mark, apostrophe, solidus, eq
 use Rattle.first_pass_lines.specs.Lines.{is_space_or_tab}
 use Rattle.first_pass_html.specs.Tags.{starts_attribute, is_attribute_byte, is_unquoted, is_quoted, is_word, is_attribute_name, IsQuotedValue, IsValue}
 use Rattle.first_pass_html.specs.Tags.{IsValueSpecification, IsAttribute, AreAttributes, IsOpenTagEnd}
-use Rattle.first_pass_html.specs.TagLengths.{word_len, quoted_len, value_len, blanks_value_len, specification_len, attribute_name_len, named_len}
+use Rattle.first_pass_html.specs.TagLengths.{word_len, quoted_len, value_len, blanks_value_len, specification_len, named_len}
 use Rattle.first_pass_html.specs.TagLengths.{attribute_len, close_len, open_end_len}
 use Rattle.first_pass_html.specs.Fronts.{IsTagRest, IsEndBefore}
 use Rattle.first_pass_html.proofs.ListFacts.{prefix_all, prefix_none, front_size}
@@ -28,9 +28,7 @@ blank_no_attribute b h = grind (arith, nat_tests, h)
 -- values
 quoted_is : (quote : ℕ) (inside bs : List ℕ) → list_all (is_quoted quote) inside ≡ true → quoted_len quote (inside ++ quote ∷ bs) ≡ Some (length inside + 2)
 unfolding quoted_len
-quoted_is quote inside bs all =
-    let size = front_size (is_quoted quote) _ inside (quote ∷ bs) refl all (prefix_none (is_quoted quote) quote bs (grind (arith, nat_tests))) in
-    rw (size, drop-append_seam, eq-eqb quote quote refl)
+quoted_is quote inside bs all = grind (arith, front_size, prefix_none, nat_tests, drop-append_seam)
 
 value_quoted : (quote : ℕ) (v bs : List ℕ) → is_quote quote ≡ true → IsQuotedValue quote v → value_len (v ++ bs) ≡ Some (length v + 0)
 unfolding value_len
@@ -42,10 +40,7 @@ value_quoted quote v bs is (inside, parts, all) =
 value_unquoted : (v bs : List ℕ) → is_word is_unquoted is_unquoted v ≡ true → value_len (v ++ bs) ≡ Some (length v + prefix_len is_unquoted bs)
 unfolding value_len
 value_unquoted [] bs h = absurd (true≢false (sym h))
-value_unquoted (b ∷ v) bs h =
-    let plain : is_quote b ≡ false = unquoted_no_quote b (and_parts _ _ h).0 in
-    let some : (length (b ∷ v) + prefix_len is_unquoted bs == 0) ≡ false = grind (arith, nat_tests) in
-    rw (plain, prefix_all is_unquoted (b ∷ v) bs h, some)
+value_unquoted (b ∷ v) bs h = grind (arith, unquoted_no_quote, and_parts, nat_tests, prefix_all)
 
 pub value_is : (v bs following : List ℕ) → IsValue v → IsTagRest bs following
     → (e : ℕ) × (value_len (v ++ bs) ≡ Some (length v + e)) × IsTagRest (drop e bs) following
@@ -67,16 +62,12 @@ value_no_blank v bs (inr (inr (inside, parts, all))) = rw parts (prefix_none is_
 blanks_value_is : (blanks v bs : List ℕ) (k : ℕ)
     → list_all is_space_or_tab blanks ≡ true → IsValue v → value_len (v ++ bs) ≡ Some k → blanks_value_len (blanks ++ (v ++ bs)) ≡ Some (length blanks + k)
 unfolding blanks_value_len
-blanks_value_is blanks v bs k h is e =
-    rw (front_size is_space_or_tab _ blanks (v ++ bs) refl h (value_no_blank v bs is), drop-append_seam, e)
+blanks_value_is blanks v bs k h is e = grind (arith, front_size, value_no_blank, drop-append_seam)
 
 equals_is : (blanks bs : List ℕ) (k : ℕ)
     → list_all is_space_or_tab blanks ≡ true → blanks_value_len bs ≡ Some k → specification_len (blanks ++ equals_sign ∷ bs) ≡ length blanks + 1 + k
 unfolding specification_len
-equals_is blanks bs k h e =
-    let size = front_size is_space_or_tab _ blanks (equals_sign ∷ bs) refl h (prefix_none is_space_or_tab equals_sign bs refl) in
-    let following : drop (length blanks + 1) (blanks ++ equals_sign ∷ bs) ≡ bs = drop-append-add blanks (equals_sign ∷ bs) 1 in
-    rw (size, drop-append_seam, following, e)
+equals_is blanks bs k h e = grind (arith, front_size, prefix_none, drop-append-add, drop-append_seam)
 
 no_specification : (bs following : List ℕ) → IsTagRest bs following → specification_len bs ≡ 0
 unfolding specification_len
@@ -112,18 +103,12 @@ specification_no_name s bs following (inr i) r =
 pub name_is : (first other : ℕ → Bool) (name bs : List ℕ)
     → is_word first other name ≡ true → prefix_len other bs ≡ 0 → word_len first other (name ++ bs) ≡ Some (length name)
 name_is first other [] bs h none = absurd (true≢false (sym h))
-name_is first other (b ∷ name) bs h none =
-    let both = and_parts (first b) (list_all other name) h in
-    let more = prefix_all other name bs both.1 in
-    let size : 1 + prefix_len other (name ++ bs) ≡ length (b ∷ name) = omega arith in
-    rw both.0 (ap Some size)
+name_is first other (b ∷ name) bs h none = grind (arith, and_parts, prefix_all)
 
 named_is : (name s bs following : List ℕ) (k : ℕ) → is_attribute_name name ≡ true → prefix_len is_attribute_byte (s ++ bs) ≡ 0 → specification_len (s ++ bs) ≡ k
     → named_len (name ++ (s ++ bs)) ≡ Some (length name + k)
 unfolding named_len
-named_is name s bs following k h none e =
-    let first : attribute_name_len (name ++ (s ++ bs)) ≡ Some (length name) = name_is starts_attribute is_attribute_byte name (s ++ bs) h none in
-    rw (first, drop-append_seam, e)
+named_is name s bs following k h none e = grind (arith, name_is, drop-append_seam)
 
 -- attributes
 some_blank : (blanks : List ℕ) → is_word is_space_or_tab is_space_or_tab blanks ≡ true → (length blanks == 0) ≡ false
@@ -134,9 +119,7 @@ blanks_named_is : (blanks name bs : List ℕ) (k : ℕ) → is_word is_space_or_
     → named_len (name ++ bs) ≡ Some k
     → attribute_len (blanks ++ (name ++ bs)) ≡ Some (length blanks + k)
 unfolding attribute_len
-blanks_named_is blanks name bs k h named e =
-    let none = word_none is_space_or_tab starts_attribute is_attribute_byte (λ b k. grind (arith, nat_tests, k)) name bs named in
-    rw (front_size is_space_or_tab _ blanks (name ++ bs) refl (word_all is_space_or_tab blanks h) none, some_blank blanks h, drop-append_seam, e)
+blanks_named_is blanks name bs k h named e = grind (arith, word_none, nat_tests, front_size, word_all, some_blank, drop-append_seam)
 
 attribute_is : (a bs following : List ℕ)
     → IsAttribute a → IsTagRest bs following → (e : ℕ) × (attribute_len (a ++ bs) ≡ Some (length a + e)) × IsTagRest (drop e bs) following
@@ -203,7 +186,4 @@ step bs following n r h = elim (next bs following r) [
 ]
 
 pub last : (bs following : List ℕ) → IsTagRest bs following → attribute_len bs ≡ None → IsEndBefore bs following
-last bs following r h = elim (next bs following r) [
-  | inl (m, some, rest) ↦ absurd cc
-  | inr (none, end) ↦ end
-]
+last bs following r h = grind (arith, next)

@@ -6,8 +6,7 @@ use Rattle.std.proofs.lemmas.Bool.Decides.{nat_tests}
 use Rattle.std.proofs.Math.Seq.{drop-append_seam}
 use Rattle.first_pass_items.specs.Bytes.{solidus, equals_sign, greater_than}
 use Rattle.first_pass_lines.specs.Lines.{begins, is_space_or_tab}
-use Rattle.first_pass_html.specs.Tags.{is_tag_byte, starts_attribute, is_attribute_byte, is_unquoted, is_word, is_attribute_name, AreAttributes}
-use Rattle.first_pass_html.specs.Tags.{IsOpenTagEnd}
+use Rattle.first_pass_html.specs.Tags.{is_tag_byte, starts_attribute, is_attribute_byte, is_unquoted, is_word, is_attribute_name, AreAttributes, IsOpenTagEnd}
 use Rattle.first_pass_html.specs.Fronts.{IsTagRest}
 use Rattle.first_pass_html.proofs.ListFacts.{prefix_none, front_size}
 
@@ -76,17 +75,12 @@ end_first : (blanks slash following : List ℕ) → list_all is_space_or_tab bla
     → RestFirst ((blanks ++ (slash ++ greater_than ∷ [])) ++ following) following
 end_first [] slash following h (inl none) = inr (inl (rw none))
 end_first [] slash following h (inr one) = inr (inr (rw one))
-end_first (b ∷ bs) slash following h some =
-    inl (record { first = b; others = (bs ++ (slash ++ greater_than ∷ [])) ++ following; parts = refl; blank = (and_parts _ _ h).0 })
+end_first (b ∷ bs) slash following h some = grind (arith, and_parts)
 
 rest_first_by : (attributes : List (List ℕ)) (ending following : List ℕ)
     → AreAttributes attributes → IsOpenTagEnd ending → RestFirst (concat attributes ++ (ending ++ following)) following
 rest_first_by [] ending following are e = rw e.parts (end_first e.blanks e.slash following e.is_blanks e.is_slash)
-rest_first_by (a ∷ others) ending following are e =
-    let i = are.0 in
-    let left : List ℕ = concat others ++ (ending ++ following) in
-    rw (append_assoc a (concat others) (ending ++ following), i.parts, append_assoc i.blanks (i.name ++ i.specification) left)
-    (inl (word_first i.blanks ((i.name ++ i.specification) ++ left) i.is_blanks))
+rest_first_by (a ∷ others) ending following are e = grind (arith, word_first)
 
 rest_first : (bs following : List ℕ) → IsTagRest bs following → RestFirst bs following
 rest_first bs following r = rw r.parts (rest_first_by r.attributes r.ending following r.are_attributes r.ends)
@@ -105,8 +99,7 @@ rest_no_tag = rest_none is_tag_byte (λ b h. grind (arith, nat_tests, h))
 pub rest_no_attribute : (bs following : List ℕ) → IsTagRest bs following → prefix_len is_attribute_byte bs ≡ 0
 rest_no_attribute = rest_none is_attribute_byte (λ b h. grind (arith, nat_tests, h))
 
--- If the rest of a tag begins with bytes of an unquoted value, the rest of a tag also follows them. There are none,
--- or only the slash of its end.
+-- the `>` at the end of a tag is the rest of a tag
 only_end : (following : List ℕ) → IsTagRest (greater_than ∷ following) following
 only_end following = record {
   attributes = [];
@@ -116,11 +109,7 @@ only_end following = record {
   ends = record { blanks = []; slash = []; parts = refl; is_blanks = refl; is_slash = inl refl };
 }
 
+-- If the rest of a tag begins with bytes of an unquoted value, the rest of a tag also follows them. There are none,
+-- or only the slash of its end.
 pub rest_unquoted : (bs following : List ℕ) → IsTagRest bs following → IsTagRest (drop (prefix_len is_unquoted bs) bs) following
-rest_unquoted bs following r = elim (rest_first bs following r) [
-  | inl s ↦ (
-      let none : prefix_len is_unquoted bs ≡ 0 = rw s.parts (prefix_none is_unquoted s.first s.others (grind (arith, nat_tests, s.blank))) in
-      rw none r)
-  | inr (inl e) ↦ rw e (only_end following)
-  | inr (inr e) ↦ rw e (only_end following)
-]
+rest_unquoted bs following r = grind (arith, rest_first, prefix_none, nat_tests, only_end)

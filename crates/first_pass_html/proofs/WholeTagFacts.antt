@@ -1,5 +1,5 @@
 -- Whole tags at the start of the bytes.
-use Rattle.std.proofs.Common.{◌≡◌, inl, inr, ℕ, suc, ◌+◌, ◌<◌, true, false, true≢false, List, [], ◌∷◌, ◌++◌, length, take, drop, Some, None, refl, sym, ap}
+use Rattle.std.proofs.Common.{◌≡◌, inl, inr, ℕ, ◌+◌, ◌<◌, true, false, true≢false, List, [], ◌∷◌, ◌++◌, length, take, drop, Some, None, refl, sym, ap}
 use Rattle.std.proofs.Common.{◌∙◌, subst, arith, append_assoc, length-append, length-drop, add-one, is_some, drop-drop, take-append-drop, length-take}
 use Rattle.std.proofs.Common.{length-take-le, take-add}
 use Rattle.std.specs.List.{prefix_len, list_all, concat}
@@ -206,14 +206,11 @@ closing_found bs n k h some =
 
 -- tags with the bytes before the name
 after_first : (c : ℕ) (bs rest front others following : List ℕ) → bs ≡ c ∷ rest → bs ≡ front ++ following → front ≡ c ∷ others → rest ≡ others ++ following
-after_first c bs rest front others following whole parts first =
-    let e : c ∷ rest ≡ c ∷ (others ++ following) = sym whole ∙ parts ∙ ap (λ xs. xs ++ following) first in cc
+after_first c bs rest front others following whole parts first = grind arith
 
 name_no_slash : (name others rest : List ℕ) → is_tag_name name ≡ true → name ++ others ≡ solidus ∷ rest → ⊥
 name_no_slash [] others rest h e = true≢false (sym h)
-name_no_slash (b ∷ name) others rest h e =
-    let same : b ≡ solidus = cc in
-    true≢false (sym (and_parts _ _ h).0 ∙ ap is_ascii_alphabetic same)
+name_no_slash (b ∷ name) others rest h e = grind (arith, and_parts)
 
 open_tag : (bs rest front following : List ℕ) → bs ≡ less_than ∷ rest → bs ≡ front ++ following → IsBlockOpenTag front
     → (others : List ℕ) × (front ≡ less_than ∷ others) × (rest ≡ others ++ following) × IsAfterOpening others
@@ -223,15 +220,11 @@ open_tag bs rest front following whole parts tag =
 
 closing_tag : (bs rest front following : List ℕ) → bs ≡ less_than ∷ rest → bs ≡ front ++ following → IsClosingTag front
     → (others : List ℕ) × (front ≡ less_than ∷ solidus ∷ others) × (rest ≡ solidus ∷ (others ++ following)) × IsAfterClosing others
-closing_tag bs rest front following whole parts tag =
-    let others : List ℕ = tag.name ++ (tag.blanks ++ greater_than ∷ []) in
-    (others, tag.parts, after_first less_than bs rest front (solidus ∷ others) following whole parts tag.parts, subst IsClosingTag tag.parts tag)
+closing_tag bs rest front following whole parts tag = grind (arith, after_first)
 
 -- an open tag, if no slash follows the first byte
 no_closing : (bs rest front following : List ℕ) → bs ≡ less_than ∷ rest → begins solidus rest ≡ false → bs ≡ front ++ following → IsClosingTag front → ⊥
-no_closing bs rest front following whole plain parts tag =
-    let t = closing_tag bs rest front following whole parts tag in
-    true≢false (ap (begins solidus) (sym t.2) ∙ plain)
+no_closing bs rest front following whole plain parts tag = grind (arith, closing_tag)
 
 pub open_found : (bs rest : List ℕ) (n : ℕ) → bs ≡ less_than ∷ rest → begins solidus rest ≡ false → IsOnlyFront IsAfterOpening rest n
     → IsOnlyFront IsBlockTag bs (n + 1)
@@ -246,24 +239,14 @@ open_none bs rest whole plain none front following parts (inr tag) = no_closing 
 
 -- a closing tag, if a slash follows the first byte
 no_open : (bs rest front following : List ℕ) → bs ≡ less_than ∷ solidus ∷ rest → bs ≡ front ++ following → IsBlockOpenTag front → ⊥
-no_open bs rest front following whole parts tag =
-    let t = open_tag bs (solidus ∷ rest) front following whole parts tag in
-    let r = opening_rest (solidus ∷ rest) t.0 following t.2 t.3 in
-    name_no_slash r.name r.others rest r.is_name (sym r.parts)
+no_open bs rest front following whole parts tag = grind (arith, open_tag, opening_rest, name_no_slash)
 
 pub close_found : (bs rest : List ℕ) (n : ℕ) → bs ≡ less_than ∷ solidus ∷ rest → IsOnlyFront IsAfterClosing rest n → IsOnlyFront IsBlockTag bs (n + 2)
-close_found bs rest n whole o =
-    let two : n + 2 ≡ suc (suc n) = omega arith in
-    only_front IsBlockTag bs (n + 2) (inr (rw (whole, two) o.is_text)) (λ front following parts tag. elim tag [
-      | inl tag ↦ absurd (no_open bs rest front following whole parts tag)
-      | inr tag ↦ let t = closing_tag bs (solidus ∷ rest) front following whole parts tag in
-          ap length t.1 ∙ omega (arith, o.only t.0 following (let e = t.2 in cc) t.3)
-    ])
+close_found bs rest n whole o = grind (arith, only_front, no_open, closing_tag)
 
 pub close_none : (bs rest : List ℕ) → bs ≡ less_than ∷ solidus ∷ rest → HasNoFront IsAfterClosing rest → HasNoFront IsBlockTag bs
 close_none bs rest whole none front following parts (inl tag) = no_open bs rest front following whole parts tag
-close_none bs rest whole none front following parts (inr tag) =
-    let t = closing_tag bs (solidus ∷ rest) front following whole parts tag in none t.0 following (let e = t.2 in cc) t.3
+close_none bs rest whole none front following parts (inr tag) = grind (arith, closing_tag)
 
 -- no tag begins with another byte
 pub needs_bracket : (bs : List ℕ) → begins less_than bs ≡ false → HasNoFront IsBlockTag bs

@@ -1,13 +1,12 @@
 -- What the first byte of a line decides before its prefixes are read, and the first bytes of items that interrupt a
 -- paragraph.
-use Rattle.std.proofs.Common.{◌≡◌, ℕ, suc, ◌+◌, ◌==◌, nat_lt, nat_le, ◌&&◌, ◌||◌, not, Bool, true, false, true≢false, List, [], ◌∷◌, drop, Option}
-use Rattle.std.proofs.Common.{Some, None, is_some, if◌then◌else◌, refl, sym, ap, subst, ◌∙◌, arith, eqb-true, option_map, option_and_then}
+use Rattle.std.proofs.Common.{◌≡◌, ℕ, suc, ◌+◌, ◌==◌, nat_lt, nat_le, ◌&&◌, not, Bool, true, false, true≢false, List, [], ◌∷◌, drop, Option, Some, None}
+use Rattle.std.proofs.Common.{is_some, if◌then◌else◌, refl, sym, ap, subst, ◌∙◌, arith, eqb-true, option_map, option_and_then}
 use Rattle.first_pass_grammar.proofs.Common.{cond_both, and_parts, or_left, or_right, nat_tests, prefix_len, or-true, space, hyphen, equals_sign}
-use Rattle.first_pass_grammar.proofs.Common.{greater_than, begins, eol_len, blank_len, at_line_end, atx_level, is_white, is_plain, begins_plain, Rest}
+use Rattle.first_pass_grammar.proofs.Common.{greater_than, begins, eol_len, blank_len, at_line_end, is_white, is_plain, begins_plain, Rest}
 use Rattle.first_pass_grammar.proofs.Common.{column_of_byte, next_column, after_columns, indent, past_bytes, past_quote_byte, past_quote, line_rest}
-use Rattle.first_pass_grammar.proofs.Common.{after-none, setext_underline, hrule_len, code_fence, list_marker, plain_begins, Context, has_columns, prefix}
-use Rattle.first_pass_grammar.proofs.Common.{after, or_shorter, front, Continued, continued, all_taken}
-use Rattle.first_pass_grammar.proofs.Common.{interrupts_with, interrupts, underline_of}
+use Rattle.first_pass_grammar.proofs.Common.{after-none, setext_underline, list_marker, plain_begins, Context, has_columns, prefix}
+use Rattle.first_pass_grammar.proofs.Common.{after, or_shorter, front, Continued, continued, all_taken, interrupts_with, interrupts, underline_of}
 use Rattle.first_pass_items.specs.Bytes.{tab}
 use Rattle.first_pass_lines.specs.Rest.{columns_of}
 use Rattle.first_pass_scan.specs.Markers.{is_bullet, bullet_marker, listitem, after_marker, content_indent}
@@ -30,9 +29,7 @@ columns_same n r h = rw (after-none n r h.column) (cond_both _ (Some r) None (λ
 
 prefix_same : (c : Container) (r : Rest) → HasNoPrefix r → or_shorter (prefix c r) r ≡ r
 unfolding prefix
-prefix_same (BlockQuote kind) r h =
-    ap (λ (q : Rest). or_shorter (option_map (after_columns 1) (past_quote q)) r) (after-none 3 r h.column)
-    ∙ ap (λ o. or_shorter (option_map (after_columns 1) o) r) h.quote
+prefix_same (BlockQuote kind) r h = grind (arith, after-none)
 prefix_same (ListItem n) r h = columns_same n r h
 prefix_same (FootnoteDefinition n) r h = columns_same n r h
 prefix_same (Definition n) r h = columns_same n r h
@@ -59,7 +56,7 @@ text_same path r h = ap all_taken (front_same path r h) ∙ after-none (indent r
 -- `HasNoPrefix` holds for a line that begins with no space, tab or `>`.
 column_none : (r : Rest) (bs : List ℕ) → begins space bs ≡ false → begins tab bs ≡ false → column_of_byte r bs ≡ None
 column_none r [] a b = refl
-column_none r (b ∷ bs) s t = rw s (rw t refl)
+column_none r (b ∷ bs) s t = rw (s, t) refl
 
 quote_none : (r : Rest) (bs : List ℕ) → begins greater_than bs ≡ false → past_quote_byte r bs ≡ None
 quote_none r [] h = refl
@@ -75,9 +72,7 @@ plain_none bs h = none_first bs (plain_begins space bs h refl) (plain_begins tab
 -- A line whose first byte is plain is one more line of the paragraph text before it; its part of that text begins at
 -- its start.
 pub plain_first : (around : Context) (start : ℕ) (bs : List ℕ) → begins_plain bs ≡ true → More start ≡ next_line_of around start (line_rest bs)
-plain_first around start bs h =
-    let same : start ≡ start + 0 = omega arith in
-    ap More same ∙ plain_more around start (line_rest bs) (line_rest bs) (sym (text_same around.path (line_rest bs) (plain_none bs h))) h
+plain_first around start bs h = grind (arith, plain_more, text_same, plain_none)
 
 -- At the end of a line, the first byte is that of a line ending; at the end of the text there is none. So no other byte
 -- c comes first.
@@ -90,7 +85,7 @@ eol_none bs h = none_first bs (eol_begins space bs h (λ xs. refl)) (eol_begins 
 
 eol_setext : (bs : List ℕ) → at_line_end bs ≡ true → setext_underline bs ≡ None
 unfolding setext_underline
-eol_setext bs h = rw (eol_begins equals_sign bs h (λ xs. refl)) (rw (eol_begins hyphen bs h (λ xs. refl)) refl)
+eol_setext bs h = rw (eol_begins equals_sign bs h (λ xs. refl), eol_begins hyphen bs h (λ xs. refl)) refl
 
 -- A line with nothing after its prefixes and indentation is no underline.
 eol_underline : (path : List Container) (r : Rest) → at_line_end (all_taken (front path r)).left ≡ true → underline_of path r ≡ None
@@ -106,8 +101,7 @@ pub eol_first : (around : Context) (start : ℕ) (bs : List ℕ) → at_line_end
 eol_first around start bs h =
     let ends : at_line_end (all_taken (front around.path (line_rest bs))).left ≡ true =
     ap (λ (r : Rest). at_line_end r.left) (text_same around.path (line_rest bs) (eol_none bs h)) ∙ h in
-    rw (eol_underline around.path (line_rest bs) ends)
-    (rw (eol_ends around (continued around.path (line_rest bs)) (front around.path (line_rest bs)) ends) refl)
+    rw (eol_underline around.path (line_rest bs) ends, eol_ends around (continued around.path (line_rest bs)) (front around.path (line_rest bs)) ends) refl
 
 -- a line with a plain byte after its first space is not blank
 blank_by : (f g : ℕ → ℕ) (o : Option ℕ) → option_map f o ≡ None → option_map g o ≡ None
@@ -122,10 +116,6 @@ blank_after : (bs : List ℕ) → begins_plain bs ≡ true → blank_len (space 
 blank_after bs h = blank_more (1 + prefix_len is_white bs) (prefix_len is_white bs) bs (omega arith) (plain_blank bs h)
 
 -- A bullet and a space begin a list item.
-after_some : (n : ℕ) (r : Rest) → nat_le 1 (indent r) ≡ true → after_marker n r ≡ Some (content_indent (n + 1) (after_columns 1 r))
-unfolding after_marker
-after_some n r h = rw h refl
-
 abbrev bullet_by : Bool → ℕ → Option (ℕ × ℕ × ℕ)
 bullet_by t b = if t then Some (1, b, 0) else None
 
@@ -137,21 +127,16 @@ has_space n = grind (arith, nat_tests)
 
 bullet_item : (b : ℕ) (bs : List ℕ) → is_bullet b ≡ true
     → listitem (b ∷ space ∷ bs) ≡ Some (1, b, 0, (content_indent 2 (after_columns 1 (after_bullet b bs))).0)
-unfolding listitem list_marker
-bullet_item b bs t =
-    rw t (ap (option_map (λ (content : ℕ × Rest). (1, b, 0, content.0))) (after_some 1 (after_bullet b bs) (has_space (columns_of bs 2))))
+unfolding listitem list_marker after_marker
+bullet_item b bs t = rw (t, has_space (columns_of bs 2)) refl
 
 -- With a plain byte after the bullet and the space, the item interrupts a paragraph.
 item_by : (whole : Bool) (b : ℕ) (bs : List ℕ) → is_bullet b ≡ true → begins_plain bs ≡ true
     → item_interrupts whole (b ∷ space ∷ bs) (listitem (b ∷ space ∷ bs)) ≡ true
-item_by whole b bs t h = rw (bullet_item b bs t) (rw t (rw (blank_after bs h) (or-true (not whole))))
+item_by whole b bs t h = rw (bullet_item b bs t, t, blank_after bs h) (or-true (not whole))
 
 item_first : (whole : Bool) (b : ℕ) (bs : List ℕ) → is_bullet b ≡ true → begins_plain bs ≡ true → interrupts_with whole (b ∷ space ∷ bs) ≡ true
-item_first whole b bs t h =
-    let line : List ℕ = b ∷ space ∷ bs in
-    or_left _ _ (or_left _ _ (or_right
-    (at_line_end line || is_some (hrule_len line) || is_some (atx_level line) || is_some (code_fence line) || begins greater_than line) _
-    (item_by whole b bs t h)))
+item_first whole b bs t h = grind (arith, or_left, or_right, item_by)
 
 is_marked : (t : Bool) (b : ℕ) → is_some (bullet_by t b) ≡ true → t ≡ true
 is_marked true b h = refl

@@ -1,6 +1,6 @@
 -- Facts from the kind of the block at a place.
-use Rattle.std.proofs.Common.{◌≡◌, inl, inr, ℕ, ◌+◌, ◌<◌, ◌≤◌, min, nat_lt, ◌==◌, Bool, true, false, List, length, drop, Option, Some, None, is_some}
-use Rattle.std.proofs.Common.{IfSome, IfNone, IsUtf8, refl, sym, ap, subst, ◌∙◌, if◌then◌else◌, arith, option_map}
+use Rattle.std.proofs.Common.{◌≡◌, inl, inr, ℕ, ◌+◌, ◌<◌, ◌≤◌, min, nat_lt, ◌==◌, Bool, true, false, List, length, drop, Option, Some, None, is_some, IfSome}
+use Rattle.std.proofs.Common.{IfNone, IsUtf8, refl, sym, ap, subst, ◌∙◌, if◌then◌else◌, arith, option_map}
 use Rattle.first_pass_grammar.proofs.Common.{nat_tests, Options, has, HeadingLevel, is_content, atx_level, hrule_len, code_fence, Rest, indent, place_at}
 use Rattle.first_pass_grammar.proofs.Common.{offset, IsPlaceOf, BeginsTagLine, Kind, Blank, IndentedCode, Metadata, HtmlToEnd, HtmlToBlank, ThematicBreak}
 use Rattle.first_pass_grammar.proofs.Common.{AtxHeading, FencedCode, LinkDefinitions, all_taken, is_blank_rest, heading_or, rule_or, fence_or, metadata_at}
@@ -76,11 +76,6 @@ pub code_kind : (options : Options) (r : Rest) → is_blank_rest r ≡ false →
 unfolding first_kind
 code_kind options r h u = let first : first_kind options r ≡ Some IndentedCode = rw h (rw u refl) in subst (λ o. IsKindBy r o IndentedCode) (sym first) refl
 
-early_is : (options : Options) (r : Rest) → is_blank_rest r ≡ false → nat_lt (indent r) 4 ≡ true
-    → first_kind options r ≡ metadata_or (metadata_at (indent r) options (all_taken r).left) (html_kind (all_taken r).left)
-unfolding first_kind
-early_is options r h u = rw h (rw u refl)
-
 -- The rest is not blank and is at fewer than four columns. `m` is the mark byte of the metadata block there, or `None`
 -- without one.
 pub record AfterMetadata (options : Options) (r : Rest) (m : Option ℕ) : Type 0 where
@@ -109,37 +104,29 @@ past_columns text start r taken columns c =
 -- the metadata block after these columns, or none
 pub found_early : (text : List ℕ) (start : ℕ) (r : Rest) (taken columns : ℕ) (options : Options) (m : Option ℕ)
     → ColumnsTaken text start r taken columns → m ≡ metadata_at columns options (drop (start + taken) text) → AfterMetadata options r m
-found_early text start r taken columns options m c m_is =
-    let f = few_columns columns (indent r) c.columns_are c.few in
-    record {
-      some = c.some;
-      bound = f.0;
-      metadata = ap (metadata_at (indent r) options) (past_columns text start r taken columns c).1
-          ∙ ap (λ n. metadata_at n options (drop (start + taken) text)) (sym f.1) ∙ sym m_is;
-    }
+found_early text start r taken columns options m c m_is = grind (arith, few_columns, past_columns)
+
+first_is : (options : Options) (r : Rest) (m : Option ℕ) → AfterMetadata options r m → first_kind options r ≡ metadata_or m (html_kind (all_taken r).left)
+unfolding first_kind
+first_is options r m f = rw (f.some, f.bound, f.metadata) refl
 
 -- metadata
 pub metadata_here : (options : Options) (r : Rest) (byte : ℕ) → AfterMetadata options r (Some byte) → IsKind options r (Metadata byte)
-metadata_here options r byte f =
-    subst (λ o. IsKindBy r o (Metadata byte))
-    (sym (early_is options r f.some f.bound ∙ ap (λ m. metadata_or m (html_kind (all_taken r).left)) f.metadata)) refl
-
-html_first : (options : Options) (r : Rest) → AfterMetadata options r None → first_kind options r ≡ html_kind (all_taken r).left
-html_first options r f = early_is options r f.some f.bound ∙ ap (λ m. metadata_or m (html_kind (all_taken r).left)) f.metadata
+metadata_here options r byte f = subst (λ o. IsKindBy r o (Metadata byte)) (sym (first_is options r (Some byte) f)) refl
 
 -- an HTML block of types 1 to 6
 pub html_here : (options : Options) (r : Rest) (k : Kind) → AfterMetadata options r None → html_kind (all_taken r).left ≡ Some k → IsKind options r k
-html_here options r k f is = subst (λ o. IsKindBy r o k) (sym (html_first options r f ∙ is)) refl
+html_here options r k f is = subst (λ o. IsKindBy r o k) (sym (first_is options r None f ∙ is)) refl
 
 -- an HTML block of type 7
 pub tag_here : (options : Options) (r : Rest) (n : ℕ)
     → AfterMetadata options r None → html_kind (all_taken r).left ≡ None → BeginsTagLine (all_taken r).left n → IsKind options r HtmlToBlank
-tag_here options r n f is tag = subst (λ o. IsKindBy r o HtmlToBlank) (sym (html_first options r f ∙ is)) (inl (n, tag, refl))
+tag_here options r n f is tag = subst (λ o. IsKindBy r o HtmlToBlank) (sym (first_is options r None f ∙ is)) (inl (n, tag, refl))
 
 -- one of the kinds of `later_kind`: a thematic break, an ATX heading, fenced code, or `Paragraph`
 pub last_here : (options : Options) (r : Rest) → AfterMetadata options r None → html_kind (all_taken r).left ≡ None
     → ((n : ℕ) → BeginsTagLine (all_taken r).left n → ⊥) → IsKind options r (later_kind (all_taken r).left)
-last_here options r f is no_tag = subst (λ o. IsKindBy r o (later_kind (all_taken r).left)) (sym (html_first options r f ∙ is)) (inr (no_tag, refl))
+last_here options r f is no_tag = subst (λ o. IsKindBy r o (later_kind (all_taken r).left)) (sym (first_is options r None f ∙ is)) (inr (no_tag, refl))
 
 -- a tag that was found, or was not
 pub tag_found : (o : Option ℕ) (bs left : List ℕ) → is_some o ≡ true → left ≡ bs → IfSome o (BeginsTagLine bs) → (n : ℕ) × BeginsTagLine left n
@@ -154,7 +141,4 @@ tag_absent (Some n) bs left h same none = cc
 -- the kind and the end condition of an HTML block that was found
 pub found_html : (o : Option BlockStart) (f : BlockStart) (h : Option Kind) (bs left : List ℕ)
     → o ≡ Some f → option_map kind_of o ≡ h → IfSome o (IsFoundWithCondition bs) → left ≡ bs → (h ≡ Some (kind_of f)) × IsFoundWithCondition left f
-found_html o f h bs left is kind with same = (
-  sym kind ∙ ap (option_map kind_of) is,
-  subst (λ z. IsFoundWithCondition z f) (sym same) (subst (λ (z : Option BlockStart). IfSome z (IsFoundWithCondition bs)) is with),
-)
+found_html o f h bs left is kind with same = grind arith

@@ -1,9 +1,9 @@
 -- If the first byte of the next line rules out a delimiter row, the line before it heads no table. A line without a pipe heads none either.
-use Rattle.std.proofs.Common.{◌≡◌, ℕ, nat_le, ◌&&◌, ◌||◌, not, Bool, true, false, List, [], ◌∷◌, length, drop, Option, Some, None, if◌then◌else◌}
-use Rattle.std.proofs.Common.{refl, sym, ap, ◌∙◌, arith, option_and_then, take_while, ne_eqb}
-use Rattle.first_pass_grammar.proofs.Common.{list_any, and_parts, cond_both, not-true, or_parts, nat_tests, hyphen, colon, pipe, has, tables, Alignment}
+use Rattle.std.proofs.Common.{◌≡◌, ℕ, nat_le, ◌&&◌, ◌||◌, not, Bool, true, false, List, [], ◌∷◌, length, drop, Option, Some, None, if◌then◌else◌, refl, sym}
+use Rattle.std.proofs.Common.{ap, ◌∙◌, arith, option_and_then, take_while, ne_eqb}
+use Rattle.first_pass_grammar.proofs.Common.{list_any, and_parts, cond_both, not-true, or_parts, nat_tests, hyphen, colon, pipe, Alignment}
 use Rattle.first_pass_grammar.proofs.Common.{is_content, begins, line_len, line_rest, Rest, after_columns, inert_indent, head_columns, Context, after}
-use Rattle.first_pass_grammar.proofs.Common.{if_as_many, table_at, ends_in_backslash, headed_table}
+use Rattle.first_pass_grammar.proofs.Common.{if_as_many, table_at, headed_table}
 use Rattle.first_pass_lines.specs.Plain.{begins_inert, is_inert}
 use Rattle.first_pass_scan.proofs.PlainFacts.{inert_after}
 use Rattle.first_pass_table_scan.specs.TableHead.{is_pipe, delimiter_row_of}
@@ -31,13 +31,7 @@ pub no_head : (path : List Container) (bs next : List ℕ) → next ≡ drop (li
     → (begins_inert next && not (begins pipe next || begins colon next)) ≡ true
     → table_at path bs ≡ None
 unfolding table_at
-no_head path bs next is h =
-    let r : Rest = line_rest next in
-    let on = and_parts (begins_inert next) _ h in
-    let off = or_parts (begins pipe next) (begins colon next) (not-true _ on.1) in
-    let none = row_by (after path r) r (λ q e. inert_path path r q refl on.0 e) (row_none r refl on.0 off.0 off.1) in
-    ap (λ (bytes : List ℕ). option_and_then (if_as_many (head_columns bs)) (option_and_then delimiter_row_of (after path (line_rest bytes)))) (sym is)
-    ∙ ap (option_and_then (if_as_many (head_columns bs))) none
+no_head path bs next is h = grind (arith, and_parts, or_parts, not-true, row_by, inert_path, row_none)
 
 -- a line without a pipe heads no table either
 no_columns : (o : Option Rest) (columns : ℕ) → columns ≡ 0 → option_and_then (if_as_many columns) (option_and_then delimiter_row_of o) ≡ None
@@ -56,6 +50,4 @@ no_pipe path bs h = no_columns (after path (line_rest (drop (line_len bs) bs))) 
 
 pub no_headed : (around : Context) (bs : List ℕ) → list_any is_pipe (take_while is_content bs) ≡ false → headed_table around bs ≡ None
 unfolding headed_table
-no_headed around bs h =
-    cond_both (has around.options tables && not (ends_in_backslash bs)) (table_at around.path bs) None (λ o. o ≡ None) (λ _. no_pipe around.path bs h)
-    (λ _. refl)
+no_headed around bs h = grind (arith, cond_both, no_pipe)

@@ -137,8 +137,7 @@ module _ {K E : Type 0} (g : K → List ℕ) (key : E → K) where
       → find (has f) (a ∷ xs) ≡ find (has f) (a ∷ ys) → find (has f) xs ≡ find (has f) ys
   same_tail f a xs ys true is p q same =
       let level = (bytes_decides f (g (key a))).0 is in none_below (key a) f xs level p ∙ sym (none_below (key a) f ys level q)
-  same_tail f a xs ys false is p q same =
-      sym (ap (λ b. cond b (Some a) (find (has f) xs)) is) ∙ same ∙ ap (λ b. cond b (Some a) (find (has f) ys)) is
+  same_tail f a xs ys false is p q same = grind arith
 
   abbrev pub AreAlike : List E → List E → Type 0
   AreAlike xs ys = (d : E) → find (has (g (key d))) xs ≡ find (has (g (key d))) ys
@@ -174,10 +173,7 @@ module _ {K E : Type 0} (g : K → List ℕ) (key : E → K) where
 
   put_long : (x : E) (es : List E) → length (put x es) ≤ suc (length es)
   put_long x [] = omega arith
-  put_long x (y ∷ es) =
-      let rest = put_long x es in
-      by_place (λ l. length l ≤ suc (suc (length es))) x y es (λ _. omega arith) (λ _. omega arith) (λ _. omega (arith, rest))
-      (by_folding g (key x) (key y)) refl
+  put_long x (y ∷ es) = grind (arith, by_place, put_long x es)
 
   pub all_long : (es ds : List E) → length (put_all es ds) ≤ length es + length ds
   all_long es [] = omega arith

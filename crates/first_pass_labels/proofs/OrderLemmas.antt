@@ -1,7 +1,6 @@
 -- The indices that a stable sort of a table's entries leaves are the table's order.
-use Rattle.std.proofs.Common.{◌≡◌, ℕ, ◌<◌, Bool, true, false, cond, not, ◌&&◌, List, [], ◌∷◌, All, Option, None, Some, map, nat_eq, refl, sym, ap, ap₂}
-use Rattle.std.proofs.Common.{subst, ◌∙◌, ◌+◌, ◌++◌, take, length, get_or, filter, slice_get, IsPermutation, IsSorted, is_eq, is_lt, Ordering, Less, Equal}
-use Rattle.std.proofs.Common.{Greater}
+use Rattle.std.proofs.Common.{◌≡◌, ℕ, ◌<◌, Bool, true, false, cond, not, ◌&&◌, List, [], ◌∷◌, All, Option, None, Some, map, nat_eq, refl, sym, ap, ap₂, subst}
+use Rattle.std.proofs.Common.{◌∙◌, ◌+◌, ◌++◌, take, length, get_or, filter, slice_get, IsPermutation, IsSorted, is_eq, is_lt, Ordering, Less, Equal, Greater}
 use Rattle.std.proofs.lemmas.List.{take_more, map-append}
 use Rattle.std.proofs.lemmas.Option.{slice_get-get_or}
 use Rattle.std.proofs.lemmas.List.Elements.{All-head, All-push, All-tail}

@@ -53,9 +53,7 @@ after_plain b bs h = rw h
 after_changed : (b n c : ℕ) (bs : List ℕ)
     → replaced_at (b ∷ bs) ≡ Some (suc n, c) → unescaped_after 0 (b ∷ bs) ≡ encode_utf8 c ++ unescaped_after 0 (drop n bs)
 unfolding unescaped_after
-after_changed b n c bs h =
-    let e : suc n - 1 ≡ n = omega arith in
-    rw h (ap (λ k. encode_utf8 c ++ unescaped_after k bs) e ∙ ap (λ xs. encode_utf8 c ++ xs) (skipped n bs))
+after_changed b n c bs h = grind (arith, skipped)
 
 changed_at : (n c : ℕ) (bs : List ℕ)
     → 0 < length bs → 0 < n → replaced_at bs ≡ Some (n, c) → unescaped_after 0 bs ≡ encode_utf8 c ++ unescaped_after 0 (drop n bs)
@@ -94,9 +92,7 @@ cell_pipe_escape bs =
     ap (unescaped_after 0) e ∙ after_changed backslash 1 pipe (pipe ∷ without_pipe_escapes bs) (escape_at pipe (without_pipe_escapes bs) refl)
 
 cell_pipe : (bs : List ℕ) → unescaped true (backslash ∷ pipe ∷ bs) ≡ pipe ∷ unescaped true bs
-cell_pipe bs =
-    ap (unescaped_after 0) (cell-dropped backslash (pipe ∷ bs) refl refl ∙ pipe_after (pipe ∷ bs) refl)
-    ∙ after_plain pipe (without_pipe_escapes bs) (no_replacement pipe (without_pipe_escapes bs) refl refl)
+cell_pipe bs = grind (arith, cell-dropped, pipe_after, after_plain, no_replacement)
 
 escaped : (t : Bool) (p : ℕ) (bs : List ℕ) → is_ascii_punctuation p ≡ true → p < ascii_end → (t && begins_pipe_escape (backslash ∷ p ∷ bs)) ≡ false
     → unescaped t (backslash ∷ p ∷ bs) ≡ encode_utf8 p ++ unescaped t bs
@@ -129,16 +125,7 @@ escape_parts (b ∷ []) h = absurd (grind (arith, nat_tests, h))
 escape_parts (b ∷ p ∷ bs) h = let q = and_parts _ _ h in ap (λ x. x ∷ p ∷ bs) (eqb-true b backslash q.0)
 
 escape_changes : (t : Bool) (bs : List ℕ) → begins_escape bs ≡ true → (t && begins_pipe_escape bs) ≡ false → Changes t bs 2 (slice_index bs 1)
-escape_changes t bs h k =
-    let e = escape_parts bs h in
-    let p = slice_index bs 1 in
-    let i = (and_parts (begins backslash bs) (is_ascii_punctuation p) h).1 in
-    let l : p < ascii_end = grind (arith, nat_tests, i) in
-    let z = ap length (encode_ascii p l) in
-    subst (λ xs. Changes t xs 2 (slice_index xs 1)) (sym e) (record {
-      shorter = record { some = omega arith; within = omega arith; shorter = omega arith; first = omega arith; last = l };
-      changed = escaped t p (drop 2 bs) i l (subst (λ xs. (t && begins_pipe_escape xs) ≡ false) e k);
-    })
+escape_changes t bs h k = grind (arith, escape_parts, and_parts, nat_tests, encode_ascii, escaped)
 
 pipe_escape_parts : (bs : List ℕ) → begins backslash bs ≡ true → begins backslash (drop 1 bs) ≡ true → begins pipe (drop 2 bs) ≡ true
     → bs ≡ backslash ∷ backslash ∷ pipe ∷ drop 3 bs
@@ -150,22 +137,13 @@ pipe_escape_parts (b ∷ c ∷ d ∷ bs) h i j = rw (eqb-true b backslash h, eqb
 -- three bytes: a backslash that escapes the pipe, a backslash that is dropped, and the pipe
 pipe_escape_changes : (t : Bool) (bs : List ℕ) → (t && begins_pipe_escape bs) ≡ true → Changes t bs 3 pipe
 pipe_escape_changes false bs h = absurd (false≢true h)
-pipe_escape_changes true bs h =
-    let p = and_parts (begins backslash bs && begins backslash (drop 1 bs)) (begins pipe (drop 2 bs)) h in
-    let q = and_parts (begins backslash bs) (begins backslash (drop 1 bs)) p.0 in
-    let z = ap length (encode_ascii pipe (omega arith)) in
-    subst (λ xs. Changes true xs 3 pipe) (sym (pipe_escape_parts bs q.0 q.1 p.1)) (record {
-      shorter = record { some = omega arith; within = omega arith; shorter = omega arith; first = omega arith; last = omega arith };
-      changed = cell_pipe_escape (drop 3 bs);
-    })
+pipe_escape_changes true bs h = grind (arith, and_parts, encode_ascii, pipe_escape_parts, cell_pipe_escape)
 
 -- a byte that begins no escape stays, and begins none in the text of the cell
 second_stays : (bs : List ℕ)
     → is_ascii_punctuation (slice_index bs 0) ≡ false → (begins pipe bs ≡ false) × (slice_index (without_pipe_escapes bs) 0 ≡ slice_index bs 0)
 second_stays [] h = (refl, ap (λ xs. slice_index xs 0) cell-nil)
-second_stays (b ∷ bs) h =
-    let e : (b == backslash) ≡ false = grind (arith, nat_tests, h) in
-    (grind (arith, nat_tests, h), ap (λ xs. slice_index xs 0) (cell-other b bs e))
+second_stays (b ∷ bs) h = grind (arith, nat_tests, cell-other)
 
 first_stays : (b : ℕ) (bs : List ℕ) → begins_escape (b ∷ bs) ≡ false
     → (without_pipe_escapes (b ∷ bs) ≡ b ∷ without_pipe_escapes bs) × (begins_escape (b ∷ without_pipe_escapes bs) ≡ false)
@@ -183,8 +161,7 @@ cell_replaced b bs q =
 -- an entity
 first_of_entity : (bs : List ℕ) (n c : ℕ) → entity_at bs ≡ Some (n, c) → begins ampersand bs ≡ true
 unfolding entity_at
-first_of_entity bs n c h =
-    elim (cases_Bool (begins ampersand bs)) [ inl e ↦ e | inr e ↦ (let z : None ≡ Some (n, c) = rw e at h in absurd (none-some (n, c) z)) ]
+first_of_entity bs n c h = grind (arith, cases_Bool, none-some)
 
 entity_shorter : (bs : List ℕ) (n c : ℕ) → entity_at bs ≡ Some (n, c) → IsShorter bs n c
 entity_shorter bs n c h =
@@ -215,33 +192,27 @@ entity_changes false bs n c q h =
     let k = s.some in
     record { shorter = s; changed = changed_at n c bs (omega arith) k (entity_replaced bs q ∙ h) }
 
--- every change
+-- what holds of each value that an option may have
 if_some : {P : ℕ × ℕ → Type 0} (o : Option (ℕ × ℕ)) → ((x : ℕ × ℕ) → o ≡ Some x → P x) → IfSome o P
 if_some None f = tt
 if_some (Some x) f = f x refl
 
+-- every change
 changes_if : (t : Bool) (bs : List ℕ) → IfSome (change_at t bs) (λ x. Changes t bs x.0 x.1)
 unfolding change_at replaced_at
-changes_if t bs =
-    let P : Option (ℕ × ℕ) → Type 0 = λ o. IfSome o (λ x. Changes t bs x.0 x.1) in
-    cond_both (t && begins_pipe_escape bs) _ _ P (λ h. pipe_escape_changes t bs h) (λ h.
-    cond_both (begins_escape bs) _ _ P (λ i. escape_changes t bs i h) (λ i. if_some (entity_at bs) (λ x e. entity_changes t bs x.0 x.1 i e)))
+changes_if t bs = grind (arith, cond_both, pipe_escape_changes, escape_changes, if_some, entity_changes)
 
 pub changes : (t : Bool) (bs : List ℕ) (n c : ℕ) → change_at t bs ≡ Some (n, c) → Changes t bs n c
 changes t bs n c e = rw e at (changes_if t bs)
 
 -- no change
 plain_by : (t : Bool) (b : ℕ) (bs : List ℕ) → begins_escape (b ∷ bs) ≡ false → entity_at (b ∷ bs) ≡ None → unescaped t (b ∷ bs) ≡ b ∷ unescaped t bs
-plain_by true b bs q e =
-    ap (unescaped_after 0) (first_stays b bs q).0 ∙ after_plain b (without_pipe_escapes bs) (cell_replaced b bs q ∙ e)
+plain_by true b bs q e = grind (arith, first_stays, after_plain, cell_replaced)
 plain_by false b bs q e = after_plain b bs (entity_replaced (b ∷ bs) q ∙ e)
 
 pub plain_byte : (t : Bool) (b : ℕ) (bs : List ℕ) → change_at t (b ∷ bs) ≡ None → unescaped t (b ∷ bs) ≡ b ∷ unescaped t bs
 unfolding change_at replaced_at
-plain_byte t b bs =
-    let P : Option (ℕ × ℕ) → Type 0 = λ o. o ≡ None → unescaped t (b ∷ bs) ≡ b ∷ unescaped t bs in
-    cond_both (t && begins_pipe_escape (b ∷ bs)) _ _ P (λ h e. cc) (λ h.
-    cond_both (begins_escape (b ∷ bs)) _ _ P (λ i e. cc) (λ i e. plain_by t b bs i e))
+plain_byte t b bs = grind (arith, cond_both, plain_by)
 
 pub unescaped-nil : (t : Bool) → unescaped t [] ≡ []
 unfolding unescaped_after without_pipe_escapes
@@ -251,10 +222,7 @@ unescaped-nil false = refl
 -- nothing gets longer
 shrinks_by : (t : Bool) (k b : ℕ) (bs : List ℕ) (o : Option (ℕ × ℕ)) → change_at t (b ∷ bs) ≡ o → length bs ≤ k
     → ((xs : List ℕ) → length xs ≤ k → length (unescaped t xs) ≤ length xs) → length (unescaped t (b ∷ bs)) ≤ suc (length bs)
-shrinks_by t k b bs None e l f =
-    let i = ap length (plain_byte t b bs e) in
-    let r = f bs l in
-    omega arith
+shrinks_by t k b bs None e l f = grind (arith, plain_byte)
 shrinks_by t k b bs (Some x) e l f =
     let c = changes t (b ∷ bs) x.0 x.1 e in
     let some = c.shorter.some in
@@ -274,8 +242,7 @@ shrinks_to t (suc k) (b ∷ bs) l = shrinks_by t k b bs _ refl (omega arith) (sh
 pub shrinks : (t : Bool) (bs : List ℕ) → length (unescaped t bs) ≤ length bs
 shrinks t bs = shrinks_to t (length bs) bs (omega arith)
 
--- bytes that are kept
-
+-- one more byte is kept if no change is there
 pub kept_more : (t : Bool) (text : List ℕ) (from at : ℕ)
     → IsKept t text from at → at < length text → change_at t (drop at text) ≡ None → IsKept t text from (at + 1)
 kept_more t text from at i l e =

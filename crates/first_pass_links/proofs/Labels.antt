@@ -1,8 +1,8 @@
 -- The units of a label.
-use Rattle.std.proofs.Common.{◌≡◌, ◌⊎◌, inl, inr, ℕ, zero, suc, ◌+◌, ◌-◌, ◌<◌, ◌≤◌, ◌==◌, ◌&&◌, ◌||◌, not, nat_le, Bool, true, false, List, ◌∷◌, ◌++◌, []}
-use Rattle.std.proofs.Common.{length, take, drop, get_or, slice_index, Option, Some, None, refl, sym, ap, subst, ◌∙◌, arith, append_assoc, length-append}
-use Rattle.std.proofs.Common.{length-drop, IsUtf8, if◌then◌else◌, count_by, IsCharBoundary, eqb-true, le-leb, drop-drop, get_or-drop, get_or-take}
-use Rattle.std.proofs.Common.{get_or-append-add, length-take-le, append-nil}
+use Rattle.std.proofs.Common.{◌≡◌, ◌⊎◌, inl, inr, ℕ, zero, suc, ◌+◌, ◌-◌, ◌<◌, ◌≤◌, ◌==◌, ◌&&◌, ◌||◌, not, Bool, true, false, List, ◌∷◌, ◌++◌, [], length}
+use Rattle.std.proofs.Common.{take, drop, get_or, slice_index, Option, Some, None, refl, sym, ap, subst, ◌∙◌, arith, append_assoc, length-append, length-drop}
+use Rattle.std.proofs.Common.{IsUtf8, if◌then◌else◌, count_by, IsCharBoundary, eqb-true, le-leb, drop-drop, get_or-drop, get_or-take, get_or-append-add}
+use Rattle.std.proofs.Common.{length-take-le, append-nil, nat_le}
 use Rattle.std.specs.List.{list_any, list_all}
 use Rattle.std.specs.Char.{is_ascii_punctuation}
 use Rattle.std.specs.Option.{option_map_or}
@@ -10,8 +10,7 @@ use Rattle.std.proofs.lemmas.Bool.{and_parts, and_left, and_right, cases_lt, con
 use Rattle.std.proofs.lemmas.Bool.Decides.{nat_tests}
 use Rattle.std.proofs.lemmas.Grind.{common_steps}
 use Rattle.std.proofs.lemmas.Str.{IsCharBoundary-after_ascii, IsCharBoundary-start}
-use Rattle.std.proofs.lemmas.List.{drop_more, drop_all, get_or_past, map-append}
-use Rattle.std.proofs.lemmas.List.{length-map}
+use Rattle.std.proofs.lemmas.List.{drop_more, drop_all, get_or_past, map-append, length-map}
 use Rattle.std.proofs.lemmas.List.Folds.{list_any-append, list_all-append}
 use Rattle.std.proofs.Math.Seq.{take-append-add, drop-append-add}
 use Rattle.first_pass_items.specs.Bytes.{space, backslash, right_bracket, pipe, ascii_end}
@@ -59,7 +58,7 @@ pub left-stop : (h : List ℕ → Option ℕ) (text : List ℕ) (at : ℕ)
 left-stop h text at l e f = ap (joined h at 0) (drop_more text at 0 l) ∙ joined-stop h at (get_or text at 0) (drop (at + 1) text) e f
 
 -- if 0 and the first byte of a text fail a test, the first joined byte fails it too
-joined_by : (P : List (ℕ × ℕ) → Type 0) (f : ℕ → List (ℕ × ℕ)) (o : Option ℕ) → ((n : ℕ) → P (f n)) → P [] → P (option_map_or f o [])
+pub joined_by : (P : List (ℕ × ℕ) → Type 0) (f : ℕ → List (ℕ × ℕ)) (o : Option ℕ) → ((n : ℕ) → P (f n)) → P [] → P (option_map_or f o [])
 joined_by P f (Some n) some none = some n
 joined_by P f None some none = none
 
@@ -67,9 +66,7 @@ pub joined_fails : (p : ℕ → Bool) → p 0 ≡ false → (h : List ℕ → Op
     → p (slice_index (bytes_of (joined h at 0 bs)) 0) ≡ false
 unfolding joined
 joined_fails p z h at [] e = z
-joined_fails p z h at (b ∷ bs) e =
-    let P : List (ℕ × ℕ) → Type 0 = λ cs. p (slice_index (bytes_of cs) 0) ≡ false in
-    cond_both (ends_line b bs) _ _ P (λ _. joined_by P _ (h bs) (λ n. e) z) (λ _. e)
+joined_fails p z h at (b ∷ bs) e = grind (arith, cond_both, joined_by)
 
 first_fails : (p : ℕ → Bool) → p 0 ≡ false → (h : List ℕ → Option ℕ) (text : List ℕ) (at : ℕ) → p (get_or text at 0) ≡ false
     → p (slice_index (bytes_of (left_at h text at)) 0) ≡ false
@@ -80,7 +77,7 @@ taken_fails p z zero bs e = z
 taken_fails p z (suc n) [] e = z
 taken_fails p z (suc n) (b ∷ bs) e = e
 
-begins-first : (k : ℕ) → (0 == k) ≡ false → (bs : List ℕ) → begins k bs ≡ (slice_index bs 0 == k)
+pub begins-first : (k : ℕ) → (0 == k) ≡ false → (bs : List ℕ) → begins k bs ≡ (slice_index bs 0 == k)
 begins-first k z [] = sym z
 begins-first k z (b ∷ bs) = refl
 
@@ -192,8 +189,7 @@ label_read h t text at k r =
       r.reads n,
     )
 
--- one byte
-
+-- a byte that is neither white space nor part of a line ending
 solid_ends_none : (b : ℕ) (bs : List ℕ) → is_white_or_line_end b ≡ false → ends_line b bs ≡ false
 solid_ends_none b bs h = grind (arith, nat_tests, h)
 
@@ -253,15 +249,7 @@ as_read-run t (b ∷ c ∷ u) bs h l e =
 pub reads_from : (h : List ℕ → Option ℕ) (t : Bool) (text : List ℕ) (at : ℕ) (unit : Unit) (w : List ℕ) → read_of text at unit ≡ w
     → (r : IsRead h t text at unit.next (known_as unit.characters unit.solid w)) → (unit.paused ≡ unit.resumed) ⊎ (weight w < weight (bytes_of r.run))
     → Reads h t text at unit
-reads_from h t text at unit w e r changes = record {
-  run = r.run;
-  joins = r.joins;
-  count = r.count;
-  something = r.something;
-  passed = r.passed;
-  changes = rw e changes;
-  reads = λ n. rw e (r.reads n);
-}
+reads_from h t text at unit w e r changes = grind arith
 
 unfoldable pub read_unit : (h : List ℕ → Option ℕ) (t : Bool) (text : List ℕ) (at : ℕ) (unit : Unit) → Reads h t text at unit
     → IsRead h t text at unit.next (known_as unit.characters unit.solid (read_of text at unit))
@@ -309,9 +297,7 @@ no_space text at next k lone = grind (arith, nat_tests, k, lone)
 run_heavier : (run cs : List (ℕ × ℕ)) → 0 < length run → list_all is_white_or_line_end (bytes_of run) ≡ true
     → (length run ≡ 1 → (slice_index (bytes_of (run ++ cs)) 0 == space) ≡ false) → 1 < weight (bytes_of run)
 run_heavier [] cs some white lone = absurd (omega arith)
-run_heavier (u ∷ us) cs some white lone =
-    let l = bytes-length us in
-    heavier (bytes_of (u ∷ us)) (omega arith) (and_parts _ _ white).0 (λ one. lone (omega arith))
+run_heavier (u ∷ us) cs some white lone = grind (arith, bytes-length, heavier, and_parts)
 
 -- a run of white space
 pub run_reads : (h : List ℕ → Option ℕ) (t : Bool) (text : List ℕ) (at next characters : ℕ)
@@ -348,11 +334,7 @@ run_reads h t text at next characters r ends e =
 -- a backslash that escapes a byte
 pair_joins : (h : List ℕ → Option ℕ) (text : List ℕ) (at : ℕ) → at + 1 < length text → get_or text at 0 ≡ backslash
     → is_white_or_line_end (get_or text (at + 1) 0) ≡ false → left_at h text at ≡ (at, backslash) ∷ (at + 1, get_or text (at + 1) 0) ∷ left_at h text (at + 2)
-pair_joins h text at l e s =
-    let k : at + 1 + 1 ≡ at + 2 = omega arith in
-    left-byte h text at (omega arith) (rw e) ∙ ap (λ b. (at, b) ∷ left_at h text (at + 1)) e
-    ∙ ap (λ cs. (at, backslash) ∷ cs) (left-byte h text (at + 1) l (solid_ends_none (get_or text (at + 1) 0) (drop (at + 1 + 1) text) s)
-    ∙ ap (λ n. (at + 1, get_or text (at + 1) 0) ∷ left_at h text n) k)
+pair_joins h text at l e s = grind (arith, left-byte, solid_ends_none)
 
 punctuation_facts : (p : ℕ) → is_ascii_punctuation p ≡ true → (is_white_or_line_end p ≡ false) × (begins_character p ≡ true)
     × (begins_escape (backslash ∷ p ∷ []) ≡ true)
@@ -421,16 +403,7 @@ pipe_escape_reads h text at l e p q =
 
 -- units within the text
 pub kept_is_unit : (text : List ℕ) (at n c : ℕ) (s : Bool) → at < n → n ≤ length text → c ≤ n - at → IsUnit text at (kept_unit n c s)
-kept_is_unit text at n c s l w f = record {
-  begins = omega arith;
-  order = omega arith;
-  resumes = omega arith;
-  later = l;
-  within = w;
-  bound = f;
-  change = inl refl;
-  same = λ _. refl;
-}
+kept_is_unit text at n c s l w f = grind arith
 
 dropped_is_unit : (text : List ℕ) (at n c p : ℕ)
     → IsUtf8 text → at ≤ p → p < n → n ≤ length text → c ≤ n - at → get_or text p 0 ≡ backslash → IsUnit text at (dropped_unit n c p)
@@ -539,8 +512,7 @@ blank_stops h t text at b =
     rw d
 
 pub end_stops : (h : List ℕ → Option ℕ) (t : Bool) (text : List ℕ) (at : ℕ) → length text ≤ at → Stops h t text at
-end_stops h t text at l = blank_stops h t text at (ap (λ cs. list_all is_white_or_line_end (bytes_of cs))
-    (ap (joined h at 0) (drop_all at text l) ∙ joined-nil h at))
+end_stops h t text at l = grind (arith, blank_stops, drop_all, joined-nil)
 
 pub as_read-nil : (t : Bool) → as_read t [] ≡ []
 unfolding single_spaced without_pipe_escapes
@@ -576,8 +548,7 @@ too_long t k cs l =
     let long = lt-leb (k.characters + count_by begins_character (take n (bytes_of cs))) 999 (omega arith) in
     cond-false _ _ _ (and_right _ _ (and_left _ _ long))
 
--- a run of white space, byte by byte
-
+-- one more byte of a run of white space
 pub run_more : (h : List ℕ → Option ℕ) (text : List ℕ) (at next following n : ℕ)
     → IsWhiteRun h text at next n → left_at h text next ≡ (next, get_or text next 0) ∷ left_at h text following
     → is_white_or_line_end (get_or text next 0) ≡ true

@@ -1,9 +1,7 @@
-pub mod Backslashes
 pub mod Destinations
 pub mod Escapes
 pub mod Footnotes
 pub mod Labels
-pub mod LineLabels
 pub mod Parts
 pub mod PipeEscapes
 pub mod PlainRuns

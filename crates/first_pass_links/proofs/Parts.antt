@@ -1,5 +1,5 @@
 -- Parts of a text, and their weights.
-use Rattle.std.proofs.Common.{◌≡◌, ◌⊎◌, inl, inr, ℕ, suc, ◌+◌, ◌-◌, ◌<◌, ◌≤◌, ◌==◌, ◌&&◌, not, true, false, List, ◌∷◌, ◌++◌, length, take, drop, [], get_or}
+use Rattle.std.proofs.Common.{◌≡◌, ◌⊎◌, inl, inr, ℕ, ◌+◌, ◌-◌, ◌<◌, ◌≤◌, ◌==◌, true, false, List, ◌∷◌, ◌++◌, length, take, drop, [], get_or}
 use Rattle.std.proofs.Common.{refl, sym, ap, ◌∙◌, arith, append_assoc, if◌then◌else◌, drop-drop, take-add}
 use Rattle.std.proofs.lemmas.Bool.{cond_both}
 use Rattle.std.proofs.lemmas.List.{drop_more}
@@ -7,6 +7,11 @@ use Rattle.first_pass_items.specs.Bytes.{space}
 use Rattle.first_pass_lines.specs.Lines.{is_white_or_line_end}
 use Rattle.first_pass_links.specs.declared.label.Unit.{Unit}
 use Rattle.first_pass_links.specs.Units.{part, weight, read_of, IsUnit, IsLighter}
+
+-- a result for the rest of a slice that is the text is one for the rest of the text
+pub of_text : {A : Type 0} {text bytes rest : List ℕ} {x : A} (f : List ℕ → A) (at : ℕ) → x ≡ f rest → rest ≡ drop at bytes → bytes ≡ text
+    → x ≡ f (drop at text)
+of_text f at h i j = h ∙ ap f (i ∙ ap (drop at) j)
 
 pub part-start : (text : List ℕ) (b : ℕ) → part text 0 b ≡ take b text
 part-start text b = let e : b - 0 ≡ b = omega arith in rw e
@@ -22,9 +27,7 @@ part-split text a b c h k =
     ∙ ap (λ xs. part text a b ++ take (c - b) xs) (drop-drop (b - a) a text ∙ ap (λ n. drop n text) f))
 
 pub part-one : (text : List ℕ) (at : ℕ) → at < length text → part text at (at + 1) ≡ get_or text at 0 ∷ []
-part-one text at l =
-    let e : at + 1 - at ≡ 1 = omega arith in
-    ap (λ n. take n (drop at text)) e ∙ ap (take 1) (drop_more text at 0 l)
+part-one text at l = grind (arith, drop_more)
 
 pub part-two : (text : List ℕ) (at : ℕ) → at + 1 < length text → part text at (at + 2) ≡ get_or text at 0 ∷ get_or text (at + 1) 0 ∷ []
 part-two text at l =
@@ -35,8 +38,7 @@ part-two text at l =
 pub take-part : (text : List ℕ) (a b : ℕ) → a ≤ b → take b text ≡ take a text ++ part text a b
 take-part text a b h = let e : b ≡ a + (b - a) = omega arith in ap (λ n. take n text) e ∙ take-add a (b - a) text
 
--- weights
-
+-- two texts, one after the other, have the sum of their weights
 pub weight-append : (xs ys : List ℕ) → weight (xs ++ ys) ≡ weight xs + weight ys
 unfolding weight
 weight-append [] ys = omega arith
@@ -45,9 +47,7 @@ weight-append (x ∷ xs) ys = let i = weight-append xs ys in omega arith
 pub weight-length : (xs : List ℕ) → length xs ≤ weight xs
 unfolding weight
 weight-length [] = omega arith
-weight-length (x ∷ xs) =
-    let i = weight-length xs in
-    cond_both (is_white_or_line_end x && not (x == space)) 2 1 (λ w. suc (length xs) ≤ w + weight xs) (λ _. omega arith) (λ _. omega arith)
+weight-length (x ∷ xs) = grind (arith, cond_both, weight-length xs)
 
 pub weight-nil : weight [] ≡ 0
 unfolding weight
@@ -108,10 +108,7 @@ unit_read text written from at unit r u n = elim u.change [
 
 -- the text that is read from all of it
 pub whole_kept : (text written : List ℕ) (from at : ℕ) → IsLighter text written from at → from ≡ 0 → take at text ≡ written ++ part text from at
-whole_kept text written from at r e = elim r.lighter [
-  | inl h ↦ (sym (ap (λ xs. xs ++ part text from at) h.1 ∙ ap (λ n. part text n at) e ∙ part-start text at))
-  | inr h ↦ absurd (let z = ap (λ n. weight (take n text)) e ∙ weight-nil in omega arith)
-]
+whole_kept text written from at r e = grind (arith, part-start, weight-nil)
 
 pub whole_differs : (text written : List ℕ) (from at : ℕ) → IsLighter text written from at → (from ≡ 0 → ⊥) → written ++ part text from at ≡ take at text → ⊥
 whole_differs text written from at r n e = elim r.lighter [

@@ -3,11 +3,11 @@
 use Rattle.std.proofs.Common.{◌≡◌, inl, inr, ℕ, zero, suc, ◌+◌, ◌≤◌, ◌==◌, ◌&&◌, ◌||◌, Bool, true, false, List, [], ◌∷◌, take, drop, refl, sym, ap, ◌∙◌}
 use Rattle.std.proofs.Common.{arith, eqb-true}
 use Rattle.std.specs.List.{prefix_len}
-use Rattle.std.specs.Char.{is_ascii_digit, is_ascii_hexdigit, is_ascii_alphabetic}
+use Rattle.std.specs.Char.{is_ascii_alphabetic}
 use Rattle.std.proofs.lemmas.Bool.{and_parts, and_left, or_cases, cases_Bool, cond_both}
 use Rattle.first_pass_items.specs.Bytes.{number_sign, ampersand, semicolon, capital_x, backslash, small_x, pipe}
 use Rattle.first_pass_lines.specs.Lines.{begins}
-use Rattle.first_pass_entities.specs.Entities.{number_at, numeric_at, name_at, entity_at, following}
+use Rattle.first_pass_entities.specs.Entities.{number_at, numeric_at, name_at, entity_at}
 use Rattle.first_pass_links.specs.Escapes.{without_pipe_escapes}
 use Rattle.first_pass_entities.proofs.EntityFacts.{is_plain, plain_through}
 
@@ -29,9 +29,7 @@ cell-dropped b bs h h' = rw (h, h')
 -- bytes that begin with a pipe keep it
 pub pipe_after : (bs : List ℕ) → begins pipe bs ≡ true → without_pipe_escapes bs ≡ pipe ∷ without_pipe_escapes (drop 1 bs)
 pipe_after [] h = cc
-pipe_after (b ∷ bs) h =
-    let e = eqb-true b pipe h in
-    cell-other b bs (rw e) ∙ ap (λ x. x ∷ without_pipe_escapes bs) e
+pipe_after (b ∷ bs) h = grind (arith, cell-other)
 
 -- a law of the text of a cell with one more byte, by whether the byte is a backslash that is dropped
 pub cell_cases : (P : List ℕ → Type 0) (b : ℕ) (bs : List ℕ) → ((b == backslash) && begins pipe bs ≡ true → P (without_pipe_escapes bs))
@@ -90,25 +88,14 @@ after_byte k (b ∷ bs) h q = ap (drop 1) (cell-other b bs (rw (eqb-true b k h) 
 
 numeric_by : (t : Bool) (bs : List ℕ) → (begins small_x bs || begins capital_x bs) ≡ t → numeric_at (without_pipe_escapes bs) ≡ numeric_at bs
 unfolding numeric_at
-numeric_by true bs h =
-    let d : drop 1 (without_pipe_escapes bs) ≡ without_pipe_escapes (drop 1 bs) =
-    elim (or_cases _ _ h) [ inl e ↦ after_byte small_x bs e refl | inr e ↦ after_byte capital_x bs e refl ] in
-    rw (begins-cell small_x bs refl refl, begins-cell capital_x bs refl refl, h, d)
-    (ap (following 1) (number_at-cell is_ascii_hexdigit refl refl 16 6 (drop 1 bs)))
-numeric_by false bs h =
-    rw (begins-cell small_x bs refl refl, begins-cell capital_x bs refl refl, h) (number_at-cell is_ascii_digit refl refl 10 7 bs)
+numeric_by true bs h = grind (arith, or_cases, after_byte, begins-cell, number_at-cell)
+numeric_by false bs h = grind (arith, begins-cell, number_at-cell)
 
 entity_by : (t u : Bool) (bs : List ℕ) → begins ampersand bs ≡ t → begins number_sign (drop 1 bs) ≡ u → entity_at (without_pipe_escapes bs) ≡ entity_at bs
 unfolding entity_at
 entity_by false u bs h h' = rw (begins-cell ampersand bs refl refl, h)
-entity_by true true bs h h' =
-    let d = after_byte ampersand bs h refl in
-    let f = after_byte number_sign (drop 1 bs) h' refl in
-    rw (begins-cell ampersand bs refl refl, h, d, begins-cell number_sign (drop 1 bs) refl refl, h', f)
-    (ap (λ x. following 1 (following 1 x)) (numeric_by _ (drop 1 (drop 1 bs)) refl))
-entity_by true false bs h h' =
-    let d = after_byte ampersand bs h refl in
-    rw (begins-cell ampersand bs refl refl, h, d, begins-cell number_sign (drop 1 bs) refl refl, h') (ap (following 1) (name_at-cell (drop 1 bs)))
+entity_by true true bs h h' = grind (arith, after_byte, begins-cell, numeric_by)
+entity_by true false bs h h' = grind (arith, after_byte, begins-cell, name_at-cell)
 
 pub entity_at-cell : (bs : List ℕ) → entity_at (without_pipe_escapes bs) ≡ entity_at bs
 entity_at-cell bs = entity_by _ _ bs refl refl

@@ -25,8 +25,7 @@ are_plain bs rest at r e plain k below = ap is_ordinary (sym (get_or-drop at bs 
 
 ordinary_facts : (b : ℕ) → is_ordinary b ≡ true → (is_run_byte b ≡ true) × ((b == backslash) ≡ false) × (is_white_or_line_end b ≡ false)
     × (is_bracket b ≡ false) × (suc zero ≡ (if begins_character b then 1 else 0))
-ordinary_facts b h =
-    (grind (arith, nat_tests, h), grind (arith, nat_tests, h), grind (arith, nat_tests, h), grind (arith, nat_tests, h), grind (arith, nat_tests, h))
+ordinary_facts b h = grind (arith, nat_tests)
 
 pub no_escape : (bs : List ℕ) (at : ℕ) → at < length bs → (get_or bs at 0 == backslash) ≡ false → begins_escape (drop at bs) ≡ false
 no_escape bs at l h = ap begins_escape (drop_more bs at 0 l) ∙ rw h refl
@@ -34,9 +33,7 @@ no_escape bs at l h = ap begins_escape (drop_more bs at 0 l) ∙ rw h refl
 -- a run continues after plain bytes
 pub run_plain : (deepest nesting : ℕ) (bs : List ℕ) (at r : ℕ) → at + r ≤ length bs → ArePlain bs at r → nesting ≤ deepest
     → longer (at + r) (bare_len deepest nesting 0 (drop (at + r) bs)) ≡ longer at (bare_len deepest nesting 0 (drop at bs))
-run_plain deepest nesting bs at zero within plain bound =
-    let e : at + zero ≡ at = omega arith in
-    ap (λ j. longer j (bare_len deepest nesting 0 (drop j bs))) e
+run_plain deepest nesting bs at zero within plain bound = grind arith
 run_plain deepest nesting bs at (suc r) within plain bound =
     let e : at + suc r ≡ at + r + 1 = omega arith in
     let o = ordinary_facts (get_or bs (at + r) 0) (plain r (omega arith)) in

@@ -1,6 +1,6 @@
 -- The text written of a label is lighter than its source; so the label as it is read differs from its source.
 use Rattle.std.proofs.Common.{◌≡◌, ◌≢◌, ◌⊎◌, inl, inr, ℕ, suc, ◌+◌, ◌<◌, ◌≤◌, ◌==◌, Bool, true, false, List, [], ◌∷◌, ◌++◌, length, take, drop, get_or}
-use Rattle.std.proofs.Common.{slice_index, Option, Some, None, Result, refl, sym, ap, ◌∙◌, arith, append_assoc, length-append, Bor, append-nil}
+use Rattle.std.proofs.Common.{Option, Some, None, Result, refl, sym, ap, ◌∙◌, arith, append_assoc, length-append, Bor, append-nil}
 use Rattle.std.specs.declared.alloc.AllocError.{AllocError}
 use Rattle.std.proofs.lemmas.Bool.{cond_both}
 use Rattle.std.proofs.lemmas.List.{map-append}
@@ -9,8 +9,7 @@ use Rattle.first_pass_items.specs.Bytes.{space, backslash}
 use Rattle.first_pass_lines.specs.Lines.{ends_line, is_white_or_line_end}
 use Rattle.first_pass_links.specs.Escapes.{without_pipe_escapes}
 use Rattle.first_pass_links.specs.declared.label.Unit.{Unit}
-use Rattle.first_pass_links.specs.Labels.{is_bracket, AnswersWith, CanErr, IsRewritten, before_bracket, bytes_of, label_len, single_spaced}
-use Rattle.first_pass_links.specs.Labels.{as_read}
+use Rattle.first_pass_links.specs.Labels.{is_bracket, AnswersWith, CanErr, IsRewritten, before_bracket, bytes_of, label_len, single_spaced, as_read}
 use Rattle.first_pass_links.specs.Units.{read_of, left_at, Reads, StopsByError, weight}
 use Rattle.first_pass_links.proofs.Parts.{weight-append, weight-length, weight-nil, weight-space, weight-other}
 use Rattle.std.proofs.lemmas.Bool.Decides.{nat_tests}
@@ -35,13 +34,7 @@ weight-more b bs = weight-append (b ∷ []) bs
 single_weighs : (bs : List ℕ) → (weight (single_spaced bs) ≡ length (single_spaced bs)) × (length (single_spaced bs) ≤ length bs)
 unfolding single_spaced
 single_weighs [] = (weight-nil, omega arith)
-single_weighs (b ∷ bs) =
-    let i = single_weighs bs in
-    let fits : List ℕ → Type 0 = λ xs. (weight xs ≡ length xs) × (length xs ≤ length (b ∷ bs)) in
-    cond_both (is_white_or_line_end b) _ _ fits
-    (λ h. cond_both (is_white_or_line_end (slice_index bs 0)) _ _ fits (λ k. omega arith)
-    (λ k. let v = weight-more space (single_spaced bs) in let w = weight-space in omega arith))
-    (λ h. let v = weight-more b (single_spaced bs) in let w = weight-solid b h in omega arith)
+single_weighs (b ∷ bs) = grind (arith, cond_both, weight-more, weight-space, weight-solid, single_weighs bs)
 
 cell_shorter : (bs : List ℕ) → length (without_pipe_escapes bs) ≤ length bs
 cell_shorter [] = let e = ap length cell-nil in omega arith

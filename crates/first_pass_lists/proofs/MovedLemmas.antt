@@ -1,12 +1,13 @@
 -- A node that was just closed is current. Its last child is then a child of the current node. When this child is moved
 -- out of the closed node, the child becomes current.
 use Rattle.std.proofs.Common.{◌≡◌, ℕ, zero, suc, ◌+◌, ◌-◌, ◌<◌, ◌≤◌, ◌==◌, Bool, true, false, List, [], ◌∷◌, length, map, slice_get, slice_index, Option}
-use Rattle.std.proofs.Common.{Some, None, IfSome, IsSome, if◌then◌else◌, bit_and, refl, sym, ◌∙◌, ap, subst, ⊎_elim, arith, IsSomeAnd}
-use Rattle.first_pass_grammar.proofs.Common.{length-map, cases_lt, cases_eq, Item, ItemBody, DefinitionList, DefinitionListDefinition, TreeIndex, Forest}
-use Rattle.first_pass_grammar.proofs.Common.{IsForest, IsLastAt, IsOpenPath, depths, body_at, map_from, shallower, last_before, moved_from, tight_items}
-use Rattle.first_pass_grammar.proofs.Common.{last-order, depths-modify}
-use Rattle.first_pass_items.specs.declared.item.ItemBody.TheVariants.{List as ListBody, ListItem as ListItemBody}
+use Rattle.std.proofs.Common.{Some, IfSome, IsSome, if◌then◌else◌, bit_and, refl, sym, ◌∙◌, ap, subst, arith, IsSomeAnd}
+use Rattle.first_pass_grammar.proofs.Common.{length-map, cases_lt, cases_eq, Item, ItemBody, DefinitionList, TreeIndex, Forest, IsForest, IsLastAt}
+use Rattle.first_pass_grammar.proofs.Common.{IsOpenPath, depths, body_at, map_from, shallower, last_before, moved_from, tight_items, last-order}
+use Rattle.first_pass_grammar.proofs.Common.{depths-modify}
+use Rattle.first_pass_items.specs.declared.item.ItemBody.TheVariants.{List as ListBody}
 use Rattle.first_pass_tree.specs.Forest.{IsChildOfCurrent}
+use Rattle.first_pass_tree.proofs.Keeps.{map_from-length}
 use Rattle.first_pass_tree.proofs.Moves.{IsLastBefore, last_before-is}
 use Rattle.first_pass_tree.proofs.TightLemmas.{tight_from_depths}
 use Rattle.first_pass_open.specs.OpenBlock.{closed_by}
@@ -19,7 +20,7 @@ pub record IsAlike (f g : Forest Item) : Type 0 where
   pub spine_is : g.spine ≡ f.spine
   pub current_is : g.current ≡ f.current
 
-tight_alike : (f : Forest Item) (ix : TreeIndex) (tight : Bool) → IsAlike f (if tight then tight_items f ix else f)
+pub tight_alike : (f : Forest Item) (ix : TreeIndex) (tight : Bool) → IsAlike f (if tight then tight_items f ix else f)
 tight_alike f ix true = record {
   depths_are = tight_from_depths f (tight_items f ix) (slice_index (depths f.nodes) ix.0) (ix.0 + 1) refl;
   spine_is = refl;
@@ -28,12 +29,9 @@ tight_alike f ix true = record {
 tight_alike f ix false = record { depths_are = refl; spine_is = refl; current_is = refl }
 
 closed_alike : (r : PassState) (f : Forest Item) (ix : TreeIndex) (b : Option ItemBody) → IsAlike f (popped_by r f ix b).tree
-closed_alike r f ix None = record { depths_are = refl; spine_is = refl; current_is = refl }
 closed_alike r f ix (Some (ListBody flags byte number)) = tight_alike f ix (bit_and flags.0 1 == 1)
 closed_alike r f ix (Some (DefinitionList flags)) = tight_alike f ix (bit_and flags.0 1 == 1)
-closed_alike r f ix (Some (ListItemBody columns)) = record { depths_are = refl; spine_is = refl; current_is = refl }
-closed_alike r f ix (Some (DefinitionListDefinition columns)) = record { depths_are = refl; spine_is = refl; current_is = refl }
-closed_alike r f ix (Some b) = record { depths_are = refl; spine_is = refl; current_is = refl }
+closed_alike r f ix b = record { depths_are = refl; spine_is = refl; current_is = refl }
 
 child_alike : (f g : Forest Item) (ix : TreeIndex) → IsAlike f g → IsChildOfCurrent f ix → IsChildOfCurrent g ix
 child_alike f g ix a h =
@@ -43,13 +41,17 @@ child_alike f g ix a h =
       current = subst (λ c. IsSomeAnd c (λ c. c.0 < ix.0)) (sym a.current_is) h.current;
     }
 
+-- the current node is the last one of its depth
+pub current_is_last : (f : Forest Item) (c : TreeIndex) → IsForest f → f.current ≡ Some c → IsLastAt (depths f.nodes) (length f.spine + 1) c.0
+current_is_last f c forest current = subst (λ o. IfSome o (λ (c : TreeIndex). IsLastAt (depths f.nodes) (length f.spine + 1) c.0)) current forest.at_current
+
 child_closed : (f : Forest Item) (e : ℕ) (ix last : TreeIndex) (rest : List TreeIndex)
     → IsForest f → f.spine ≡ ix ∷ rest → f.current ≡ Some last → IsChildOfCurrent (closed_by f e (ix ∷ rest)) last
 child_closed f e ix last rest forest spine current =
     let ds = depths f.nodes in
     let same : depths (closed_by f e (ix ∷ rest)).nodes ≡ ds = depths-modify f.nodes ix.0 (λ x. record x { «end» = e }) in
     let opened : IsOpenPath ds (ix ∷ rest) = subst (IsOpenPath ds) spine forest.opened in
-    let l : IsLastAt ds (length f.spine + 1) last.0 = subst (λ c. IfSome c (λ c. IsLastAt ds (length f.spine + 1) c.0)) current forest.at_current in
+    let l = current_is_last f last forest current in
     let deep : length f.spine ≡ length rest + 1 = ap (λ (s : List TreeIndex). length s) spine ∙ omega arith in
     record {
       within = omega (arith, l.within, length-map f.nodes (λ n. n.0), length-map (closed_by f e (ix ∷ rest)).nodes (λ n. n.0), ap length same);
@@ -81,17 +83,11 @@ lower (n ∷ ns) (suc place) zero l = absurd (omega arith)
 lower (n ∷ ns) (suc place) (suc k) l = lower ns place k (omega arith)
 
 pub lower_length : (ns : List (ℕ × Item)) (place : ℕ) → length (map_from shallower place ns) ≡ length ns
-lower_length ns zero = length-map ns shallower
-lower_length [] (suc place) = refl
-lower_length (n ∷ ns) (suc place) = ap suc (lower_length ns place)
+lower_length ns place = map_from-length shallower place ns
 
 last_place : (ds : List ℕ) (n d place r : ℕ) → IsLastBefore ds d n r → place < n → slice_index ds place ≡ d
     → ((k : ℕ) → place < k → k < n → d < slice_index ds k) → r ≡ place
-last_place ds n d place r h l is deep =
-    ⊎_elim
-    (λ less. let w = h.following place less l in absurd (omega (arith, is)))
-    (λ from. ⊎_elim (λ same. sym same) (λ other. let w = deep r (omega (arith, other, from)) h.within in absurd (omega (arith, h.depth))) (cases_eq place r))
-    (cases_lt r place)
+last_place ds n d place r h l is deep = grind (arith, cases_eq, cases_lt)
 
 abbrev at_place : ℕ → TreeIndex
 at_place n = record { 0 = n }
@@ -119,8 +115,8 @@ last_closed r e ix last rest forest spine current =
     let same : depths g.nodes ≡ depths r.tree.nodes = alike.depths_are ∙ depths-modify r.tree.nodes ix.0 (λ x. record x { «end» = e }) in
     let deep : length r.tree.spine + 1 ≡ length g.spine + 2 =
     omega (arith, ap (λ (s : List TreeIndex). length s) spine, ap (λ (s : List TreeIndex). length s) alike.spine_is) in
-    let l = subst (λ c. IfSome c (λ c. IsLastAt (depths r.tree.nodes) (length r.tree.spine + 1) c.0)) current forest.at_current in
-    subst (λ d. IsLastAt (depths g.nodes) d last.0) deep (subst (λ ds. IsLastAt ds (length r.tree.spine + 1) last.0) (sym same) l)
+    subst (λ d. IsLastAt (depths g.nodes) d last.0) deep
+    (subst (λ ds. IsLastAt ds (length r.tree.spine + 1) last.0) (sym same) (current_is_last r.tree last forest current))
 
 closed_by_parts : (r : PassState) (e : ℕ) (s : List TreeIndex) (c : Option TreeIndex) → r.tree.spine ≡ s → r.tree.current ≡ c
     → definitions_closed e r ≡ current_moved (popped_at e r s) c

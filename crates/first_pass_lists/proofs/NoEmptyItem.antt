@@ -1,17 +1,15 @@
 -- If the state records no empty item, it still records none after nodes are closed or opened.
-use Rattle.std.proofs.Common.{◌≡◌, ℕ, Bool, true, false, List, ◌∷◌, Option, Some, None, [], refl, if◌then◌else◌}
-use Rattle.first_pass_grammar.proofs.Common.{Item, ItemBody, DefinitionList, DefinitionListDefinition, TreeIndex, Forest, with_body_at, body_at, list_flags}
-use Rattle.first_pass_grammar.proofs.Common.{CowIndex}
+use Rattle.std.proofs.Common.{◌≡◌, ℕ, Bool, true, false, List, ◌∷◌, Option, Some, None, [], refl, if◌then◌else◌, arith}
+use Rattle.first_pass_grammar.proofs.Common.{Item, ItemBody, TreeIndex, Forest, with_body_at, body_at, list_flags, CowIndex}
 use Rattle.first_pass_items.specs.declared.item.ItemBody.TheVariants.{List as ListBody, ListItem as ListItemBody, Paragraph as ParagraphBody}
 use Rattle.first_pass_open.specs.OpenBlock.{closed_by}
-use Rattle.first_pass_lists.specs.Closing.{top_end, possible_title, current_moved, definitions_closed, with_tree, popped_after, top_body, is_list, is_list_of}
-use Rattle.first_pass_lists.specs.Closing.{popped_by, popped_at, popped, empty_item_closed_by, empty_item_closed, list_closed, gap_tree, list_finished}
-use Rattle.first_pass_lists.specs.Closing.{loosened_top, list_kept, begun, list_continued, is_footnote, footnote_left, footnote_begun}
+use Rattle.first_pass_lists.specs.Closing.{top_end, possible_title, current_moved, definitions_closed, with_tree, popped_after}
+use Rattle.first_pass_lists.specs.Closing.{popped_by, popped_at, popped, empty_item_closed_by, empty_item_closed, list_finished}
+use Rattle.first_pass_lists.specs.Closing.{loosened_top, list_kept, begun, list_continued, footnote_begun}
 use Rattle.first_pass_lists.specs.declared.state.PassState.{PassState}
 
 none_by : (r : PassState) (o : Option ℕ) → r.begin_list_item ≡ o → (empty_item_closed_by r o).begin_list_item ≡ None
-none_by r None h = h
-none_by r (Some e) h = refl
+none_by r o h = grind (arith, h)
 
 -- after an empty item is closed, the state records none
 pub finished_none : (r : PassState) → (empty_item_closed r).begin_list_item ≡ None
@@ -20,20 +18,14 @@ finished_none r = none_by r r.begin_list_item refl
 
 popped_by_none : (r : PassState) (f : Forest Item) (ix : TreeIndex) (b : Option ItemBody) → r.begin_list_item ≡ None
     → (popped_by r f ix b).begin_list_item ≡ None
-popped_by_none r f ix None none = none
-popped_by_none r f ix (Some (ListBody flags list number)) none = none
-popped_by_none r f ix (Some (DefinitionList flags)) none = none
-popped_by_none r f ix (Some (ListItemBody columns)) none = refl
-popped_by_none r f ix (Some (DefinitionListDefinition columns)) none = refl
-popped_by_none r f ix (Some b) none = none
+popped_by_none r f ix b none = grind (arith, none)
 
 pub popped_at_none : (e : ℕ) (r : PassState) (s : List TreeIndex) → r.begin_list_item ≡ None → (popped_at e r s).begin_list_item ≡ None
 popped_at_none e r [] none = none
 popped_at_none e r (ix ∷ rest) none = popped_by_none r (closed_by r.tree e (ix ∷ rest)) ix (body_at (closed_by r.tree e (ix ∷ rest)).nodes ix.0) none
 
 moved_none : (r : PassState) (c : Option TreeIndex) → r.begin_list_item ≡ None → (current_moved r c).begin_list_item ≡ None
-moved_none r None none = none
-moved_none r (Some c) none = none
+moved_none r c none = grind (arith, none)
 
 pub closed_none : (e : ℕ) (r : PassState) → r.begin_list_item ≡ None → (definitions_closed e r).begin_list_item ≡ None
 unfolding definitions_closed
@@ -53,23 +45,15 @@ left_none false e r none = none
 
 noted_none : (t : Bool) (r : PassState) (f : Forest Item) → r.begin_list_item ≡ None
     → (if t then record r { tree = f; blank = false } else r).begin_list_item ≡ None
-noted_none true r f none = none
-noted_none false r f none = none
+noted_none t r f none = grind (arith, none)
 
 pub list_finished_none : (e : ℕ) (r : PassState) → (list_finished e r).begin_list_item ≡ None
 unfolding list_finished
-list_finished_none e r =
-    let l : PassState = list_closed e (empty_item_closed r) in
-    noted_none l.blank l (gap_tree l.tree l.tree.spine) (left_none (is_list (top_body (empty_item_closed r).tree)) e (empty_item_closed r) (finished_none r))
+list_finished_none e r = grind (arith, noted_none, left_none, finished_none)
 
 pub footnote_begun_none : (start : ℕ) (label : CowIndex) (r : PassState) → (footnote_begun start label r).begin_list_item ≡ None
 unfolding footnote_begun
-footnote_begun_none start label r =
-    let s : PassState = empty_item_closed r in
-    let l : PassState = list_closed start s in
-    let q : PassState = footnote_left start l in
-    noted_none q.blank q (gap_tree q.tree q.tree.spine)
-    (left_none (is_footnote (top_body l.tree)) start l (left_none (is_list (top_body s.tree)) start s (finished_none r)))
+footnote_begun_none start label r = grind (arith, noted_none, left_none, finished_none)
 
 continued_by : (t : Bool) (start byte number : ℕ) (r : PassState)
     → r.begin_list_item ≡ None → (if t then list_kept r
@@ -79,8 +63,7 @@ continued_by false start byte number r none = list_finished_none start r
 
 pub list_continued_none : (start byte number : ℕ) (r : PassState) → (list_continued start byte number r).begin_list_item ≡ None
 unfolding list_continued
-list_continued_none start byte number r =
-    continued_by (is_list_of byte (top_body (empty_item_closed r).tree)) start byte number (empty_item_closed r) (finished_none r)
+list_continued_none start byte number r = grind (arith, continued_by, finished_none)
 
 -- an item with this byte, number and indent is opened at an offset, in the list that continues or in a new one
 abbrev pub item_opened : ℕ → ℕ → ℕ → ℕ → PassState → PassState

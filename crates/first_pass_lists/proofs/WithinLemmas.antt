@@ -1,7 +1,7 @@
 -- The index of an open node is below the number of nodes.
-use Rattle.std.proofs.Common.{◌≡◌, ℕ, zero, suc, ◌<◌, Bool, true, false, true≢false, List, [], ◌∷◌, length, slice_get, Option, Some, None, IsSome, refl}
-use Rattle.std.proofs.Common.{sym, ap, subst, ◌∙◌, option_and_then}
-use Rattle.first_pass_grammar.proofs.Common.{Item, ItemBody, TreeIndex, Forest, IsForest, modify, body_at}
+use Rattle.std.proofs.Common.{◌≡◌, ℕ, ◌<◌, Bool, true, false, true≢false, List, [], ◌∷◌, length, slice_get, Option, Some, None, IsSome, refl, sym}
+use Rattle.std.proofs.Common.{◌∙◌, option_and_then, arith}
+use Rattle.first_pass_grammar.proofs.Common.{Item, ItemBody, TreeIndex, Forest, IsForest, body_at, length-modify}
 use Rattle.first_pass_open.specs.OpenBlock.{closed_by}
 use Rattle.first_pass_lists.specs.Closing.{top_body, is_list, is_item}
 use Rattle.first_pass_open.proofs.BlockLemmas.{open_node_at, open_node_in}
@@ -10,11 +10,6 @@ use Rattle.first_pass_open.proofs.BlockLemmas.{open_node_at, open_node_in}
 pub second_within : (f : Forest Item) (ix : TreeIndex) → IsForest f → slice_get f.spine 1 ≡ Some ix → ix.0 < length f.nodes
 second_within f ix forest h = open_node_at f 1 ix forest h
 
-length-modify : (ns : List (ℕ × Item)) (i : ℕ) (g : Item → Item) → length (modify ns i g) ≡ length ns
-length-modify [] i g = refl
-length-modify (n ∷ ns) zero g = refl
-length-modify (n ∷ ns) (suc i) g = ap suc (length-modify ns i g)
-
 closed_length : (f : Forest Item) (e : ℕ) (spine : List TreeIndex) → length (closed_by f e spine).nodes ≡ length f.nodes
 closed_length f e [] = refl
 closed_length f e (ix ∷ rest) = length-modify f.nodes ix.0 _
@@ -22,8 +17,7 @@ closed_length f e (ix ∷ rest) = length-modify f.nodes ix.0 _
 -- the innermost open node still has such an index after it is closed
 pub closed_within : (f g : Forest Item) (e : ℕ) (ix : TreeIndex)
     → IsForest f → slice_get f.spine 0 ≡ Some ix → g ≡ closed_by f e f.spine → ix.0 < length g.nodes
-closed_within f g e ix forest h is =
-    subst (λ n. ix.0 < n) (sym (ap (λ (t : Forest Item). length t.nodes) is ∙ closed_length f e f.spine)) (open_node_in f ix forest h)
+closed_within f g e ix forest h is = grind (arith, closed_length, open_node_in)
 
 -- if the innermost open node has a body, a node other than the root is open
 body_open : (test : Option ItemBody → Bool) (nodes : List (ℕ × Item)) (spine : List TreeIndex) → test None ≡ false

@@ -1,13 +1,13 @@
 -- A block that is opened, filled with a chain, and closed.
-use Rattle.std.proofs.Common.{◌≡◌, ℕ, zero, suc, ◌+◌, ◌<◌, List, [], ◌∷◌, ◌++◌, length, slice_get, Option, Some, None, IsSome, refl, sym, ap, subst, ◌∙◌}
-use Rattle.std.proofs.Common.{arith, append_assoc, length-append, option_map}
+use Rattle.std.proofs.Common.{◌≡◌, ℕ, suc, ◌+◌, ◌<◌, List, [], ◌∷◌, ◌++◌, length, slice_get, Option, Some, None, IsSome, refl, sym, ap, subst, ◌∙◌, arith}
+use Rattle.std.proofs.Common.{append_assoc, length-append}
 use Rattle.first_pass_grammar.proofs.Common.{same_Some, slice_get-get_or, slice_get_within, Item, ItemBody, TreeIndex, Forest, IsForest, item_at, modify}
-use Rattle.first_pass_grammar.proofs.Common.{appended, pushed, popped, added, block_of, at_depth, with_body_at, modify-at, chained, leaves, chained-spine}
+use Rattle.first_pass_grammar.proofs.Common.{appended, pushed, added, block_of, at_depth, with_body_at, modify-at, chained, leaves, chained-spine}
 use Rattle.first_pass_grammar.proofs.Common.{chained-nodes, chained-append, marker_items}
-use Rattle.first_pass_tree.specs.Forest.{modified}
 use Rattle.first_pass_tree.proofs.Blocks.{forest-eq}
 use Rattle.first_pass_tokens.proofs.ChainLemmas.{chained-current, closed-chained}
 use Rattle.first_pass_open.proofs.FrontLemmas.{open_within}
+use Rattle.first_pass_open.proofs.PathLemmas.{get_after}
 use Rattle.first_pass_open.specs.OpenBlock.{with_child, closed_by, IsJustPushed}
 
 -- The node that was opened follows all earlier nodes, so its index is their number.
@@ -40,19 +40,11 @@ opened_nodes g x chain ix =
     chained-nodes (pushed (appended g x) ix) chain ∙ append_assoc g.nodes ((length g.spine + 1, x) ∷ []) (at_depth (suc (length g.spine) + 1) (leaves chain))
     ∙ ap (λ (d : ℕ). g.nodes ++ (length g.spine + 1, x) ∷ at_depth d (leaves chain)) deeper
 
-get_after : (ns more : List (ℕ × Item)) (n : ℕ × Item) (i : ℕ) → i ≡ length ns → slice_get (ns ++ n ∷ more) i ≡ Some n
-get_after [] more n zero at = refl
-get_after [] more n (suc i) at = absurd (omega arith)
-get_after (m ∷ ns) more n zero at = absurd (omega arith)
-get_after (m ∷ ns) more n (suc i) at = get_after ns more n i (omega arith)
-
 same_current : (g : Forest Item) (x y : Item) (chain : List Item) (ix : TreeIndex)
     → (chained (pushed (appended g x) ix) chain).current ≡ (chained (pushed (appended g y) ix) chain).current
 same_current g x y [] ix = refl
 same_current g x y (z ∷ zs) ix =
-    let a = length-append g.nodes ((length g.spine + 1, x) ∷ []) in
-    let b = length-append g.nodes ((length g.spine + 1, y) ∷ []) in
-    let same : length (appended g x).nodes + length zs ≡ length (appended g y).nodes + length zs = omega arith in
+    let same : length (appended g x).nodes + length zs ≡ length (appended g y).nodes + length zs = simp length-append in
     chained-current (pushed (appended g x) ix) z zs ∙ ap (λ (m : ℕ). Some (record { 0 = m })) same ∙ sym (chained-current (pushed (appended g y) ix) z zs)
 
 module _ (g n : Forest Item) (x : Item) (chain : List Item) (ix : TreeIndex) (at : ix.0 ≡ length g.nodes)
@@ -63,12 +55,10 @@ module _ (g n : Forest Item) (x : Item) (chain : List Item) (ix : TreeIndex) (at
   pub still_open : IsSome (slice_get n.spine 0)
   still_open = subst (λ s. IsSome (slice_get s 0)) (sym spine_is) refl
 
-  closed_at : (e : ℕ) → closed_by n e n.spine ≡ modified (popped (chained (pushed (appended g x) ix) chain) ix g.spine) ix (λ y. record y { «end» = e })
-  closed_at e = ap (closed_by n e) spine_is ∙ ap (λ v. closed_by v e (ix ∷ g.spine)) filled
-
   -- If the open block is closed with an end, the whole block is added to the tree as it was before.
   pub block_closed : (new : Forest Item) (e : ℕ) → new ≡ closed_by n e n.spine → new ≡ added g (block_of (record x { «end» = e }) (leaves chain))
-  block_closed new e new_is = new_is ∙ closed_at e ∙ closed-chained g x (λ y. record y { «end» = e }) chain ix at
+  block_closed new e new_is =
+      new_is ∙ ap (closed_by n e) spine_is ∙ ap (λ v. closed_by v e (ix ∷ g.spine)) filled ∙ closed-chained g x (λ y. record y { «end» = e }) chain ix at
 
   pub open_place_of : slice_get n.spine 0 ≡ Some ix
   open_place_of = ap (λ (spine : List TreeIndex). slice_get spine 0) spine_is
@@ -76,20 +66,17 @@ module _ (g n : Forest Item) (x : Item) (chain : List Item) (ix : TreeIndex) (at
   -- The item of the open block is the one that was appended.
   pub open_item_of : item_at n ix ≡ Some x
   open_item_of =
-      ap (λ (v : Forest Item). item_at v ix) filled
-      ∙ ap (λ (ns : List (ℕ × Item)). option_map (λ (z : ℕ × Item). z.1) (slice_get ns ix.0)) (opened_nodes g x chain ix)
-      ∙ ap (option_map (λ (z : ℕ × Item). z.1)) (get_after g.nodes (at_depth (length g.spine + 2) (leaves chain)) (length g.spine + 1, x) ix.0 at)
+      rw (filled, opened_nodes g x chain ix, get_after g.nodes (at_depth (length g.spine + 2) (leaves chain)) (length g.spine + 1, x) ix.0 at) refl
 
   -- If the open block gets another body, it is as if it had been opened with that body.
   pub open_named : (body : ItemBody) → with_body_at n ix body ≡ chained (pushed (appended g (record x { body = body })) ix) chain
   open_named body =
       let y : Item = record x { body = body } in
       let kids : List (ℕ × Item) = at_depth (length g.spine + 2) (leaves chain) in
-      ap (λ (v : Forest Item). with_body_at v ix body) filled
-      ∙ forest-eq (with_body_at (chained (pushed (appended g x) ix) chain) ix body) (chained (pushed (appended g y) ix) chain)
+      rw filled (forest-eq (with_body_at (chained (pushed (appended g x) ix) chain) ix body) (chained (pushed (appended g y) ix) chain)
       (ap (λ (ns : List (ℕ × Item)). modify ns ix.0 (λ (z : Item). record z { body = body })) (opened_nodes g x chain ix)
       ∙ modify-at g.nodes kids (length g.spine + 1, x) ix.0 (λ (z : Item). record z { body = body }) at ∙ sym (opened_nodes g y chain ix))
-      (chained-spine (pushed (appended g x) ix) chain ∙ sym (chained-spine (pushed (appended g y) ix) chain)) (same_current g x y chain ix)
+      (chained-spine (pushed (appended g x) ix) chain ∙ sym (chained-spine (pushed (appended g y) ix) chain)) (same_current g x y chain ix))
 
 -- Each open node is among the nodes, also the innermost one.
 pub open_node_at : (f : Forest Item) (k : ℕ) (ix : TreeIndex) → IsForest f → slice_get f.spine k ≡ Some ix → ix.0 < length f.nodes

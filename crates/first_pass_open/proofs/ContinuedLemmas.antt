@@ -1,8 +1,8 @@
 -- How a line continues the open containers, from the number of open nodes that it continues.
-use Rattle.std.proofs.Common.{◌≡◌, inl, inr, ℕ, ◌+◌, ◌-◌, ◌<◌, ◌≤◌, ◌==◌, true, false, List, ◌∷◌, length, get_or, reverse, slice_get, Option}
-use Rattle.std.proofs.Common.{Some, None, is_some, refl, sym, ap, ◌∙◌, subst, arith, option_and_then}
-use Rattle.first_pass_grammar.proofs.Common.{and-true, cases_lt, nat_tests, length-reverse, slice_get-get_or, slice_get_past, Item, Options}
-use Rattle.first_pass_grammar.proofs.Common.{Forest, Rest, after, prefix, continued}
+use Rattle.std.proofs.Common.{◌≡◌, inl, inr, ℕ, ◌+◌, ◌<◌, ◌≤◌, ◌==◌, List, ◌∷◌, length, get_or, reverse, Option, Some, None, is_some, refl, sym, ap, ◌∙◌}
+use Rattle.std.proofs.Common.{arith}
+use Rattle.first_pass_grammar.proofs.Common.{and-true, cases_lt, nat_tests, length-reverse, slice_get-get_or, slice_get_past, Item, Options, Forest, Rest}
+use Rattle.first_pass_grammar.proofs.Common.{after, prefix, continued}
 use Rattle.first_pass_grammar.specs.declared.kind.Container.{Container}
 use Rattle.first_pass_grammar.specs.Containers.{is_definition, at_definition}
 use Rattle.first_pass_grammar.proofs.Sequences.FootnoteHeads.{whole_none}
@@ -32,24 +32,17 @@ pub record IsKept (options : Options) (f : Forest Item) (i : ℕ) (r q : Rest) :
   pub taken : after (path_in options f.nodes (outer i f.spine)) r ≡ Some q
   pub stops : (m : ℕ) → i < m → m ≤ length f.spine → after (path_in options f.nodes (outer m f.spine)) r ≡ None
 
-all_path : (options : Options) (f : Forest Item) → path_to options f.nodes f.spine (length f.spine) ≡ path_in options f.nodes f.spine
-all_path options f = ap (path_in options f.nodes) (outer-all f.spine)
-
 -- If the line continues all open nodes, `continued_to` is as the grammar has it.
 all_kept : (options : Options) (f : Forest Item) (i : ℕ) (r q : Rest) → IsKept options f i r q → length f.spine ≤ i
     → continued_to options f i ≡ continued (path_in options f.nodes f.spine) r
 all_kept options f i r q k h =
+    let path = path_in options f.nodes f.spine in
     let within = k.within in
     let all : i ≡ length f.spine = omega arith in
-    let some : after (path_in options f.nodes f.spine) r ≡ Some q =
-    ap (λ c. after c r) (sym (all_path options f)) ∙ ap (λ m. after (path_to options f.nodes f.spine m) r) (sym all) ∙ k.taken in
-    let whole : (i == length f.spine) ≡ is_some (after (path_in options f.nodes f.spine) r) =
-    (let t : (i == length f.spine) ≡ true = grind (arith, nat_tests, all) in t ∙ sym (ap is_some some)) in
-    let none : slice_get (reverse f.spine) i ≡ None =
-    slice_get_past (reverse f.spine) i (subst (λ n. n ≤ i) (sym (length-reverse f.spine)) h) in
-    let stop : definition_at_depth options f i ≡ at_definition (path_in options f.nodes f.spine) r =
-    ap (λ o. is_definition_node (option_and_then (container_at options f.nodes) o)) none
-    ∙ sym (whole_none (path_in options f.nodes f.spine) r (ap is_some some)) in
+    let some : after path r ≡ Some q = rw (all, outer-all f.spine) at k.taken in
+    let whole : (i == length f.spine) ≡ is_some (after path r) = rw some (grind (arith, nat_tests, all)) in
+    let none = slice_get_past (reverse f.spine) i (omega (arith, length-reverse f.spine)) in
+    let stop : definition_at_depth options f i ≡ at_definition path r = rw none (sym (whole_none path r (ap is_some some))) in
     cc
 
 -- If it does not continue all of them, `continued_to` is as the grammar has it too.
@@ -57,23 +50,18 @@ some_kept : (options : Options) (f : Forest Item) (i : ℕ) (r q : Rest) → IsK
     → continued_to options f i ≡ continued (path_in options f.nodes f.spine) r
 some_kept options f i r q k h =
     let path = path_in options f.nodes f.spine in
-    let last : after path r ≡ None = ap (λ c. after c r) (sym (all_path options f)) ∙ k.stops (length f.spine) h (omega arith) in
-    let whole : (i == length f.spine) ≡ is_some (after path r) =
-    (let t : (i == length f.spine) ≡ false = grind (arith, nat_tests, h) in t ∙ sym (ap is_some last)) in
-    let node : Option Container = container_at options f.nodes (get_or (reverse f.spine) i root) in
-    let here : slice_get (reverse f.spine) i ≡ Some (get_or (reverse f.spine) i root) =
-    slice_get-get_or (reverse f.spine) i root (subst (λ n. i < n) (sym (length-reverse f.spine)) h) in
-    let next : prefix_of node q ≡ None =
-    sym (taken_more options f.nodes f.spine i root r q h k.taken) ∙ k.stops (i + 1) (omega arith) (omega arith) in
-    let more = λ (k : ℕ) (h : k < length f.spine). ap (λ c. at_definition c r) (path_to-more options f.nodes f.spine k root h) in
-    let now : at_definition (path_to options f.nodes f.spine (i + 1)) r ≡ is_definition_node node =
-    more i h ∙ stop_at node (path_to options f.nodes f.spine i) r q k.taken next in
-    let stop : definition_at_depth options f i ≡ at_definition path r =
-    ap (λ o. is_definition_node (option_and_then (container_at options f.nodes) o)) here
-    ∙ sym (kept_from (λ m. at_definition (path_to options f.nodes f.spine m) r ≡ is_definition_node node) (i + 1) (length f.spine) (omega arith) now
-    (λ m low high same. more m high ∙ stop_kept (container_at options f.nodes (get_or (reverse f.spine) m root)) (path_to options f.nodes f.spine m) r
-    (k.stops m (omega arith) (omega arith)) ∙ same))
-    ∙ ap (λ c. at_definition c r) (all_path options f) in
+    let outermost : ℕ → List Container = path_to options f.nodes f.spine in
+    let container : ℕ → Option Container = λ m. container_at options f.nodes (get_or (reverse f.spine) m root) in
+    let last : after path r ≡ None = rw (outer-all f.spine) at (k.stops (length f.spine) h (omega arith)) in
+    let whole : (i == length f.spine) ≡ is_some (after path r) = rw last (grind (arith, nat_tests, h)) in
+    let here = slice_get-get_or (reverse f.spine) i root (omega (arith, length-reverse f.spine)) in
+    let next = sym (taken_more options f.nodes f.spine i root r q h k.taken) ∙ k.stops (i + 1) (omega arith) (omega arith) in
+    let more = λ (m : ℕ) (h : m < length f.spine). ap (λ c. at_definition c r) (path_to-more options f.nodes f.spine m root h) in
+    let all : at_definition (outermost (length f.spine)) r ≡ is_definition_node (container i) =
+    kept_from (λ m. at_definition (outermost m) r ≡ is_definition_node (container i)) (i + 1) (length f.spine) (omega arith)
+    (more i h ∙ stop_at (container i) (outermost i) r q k.taken next)
+    (λ m low high same. more m high ∙ stop_kept (container m) (outermost m) r (k.stops m (omega arith) (omega arith)) ∙ same) in
+    let stop : definition_at_depth options f i ≡ at_definition path r = rw here (sym (rw (outer-all f.spine) at all)) in
     cc
 
 pub kept_continued : (options : Options) (f : Forest Item) (i : ℕ) (r q : Rest) → IsKept options f i r q

@@ -1,14 +1,10 @@
 -- How far a line continues the open nodes.
-use Rattle.std.proofs.Common.{◌≡◌, ℕ, zero, suc, ◌+◌, ◌-◌, ◌<◌, ◌≤◌, List, [], ◌∷◌, length, get_or, drop, reverse, Option, Some, None}
-use Rattle.std.proofs.Common.{inl, inr, refl, sym, ap, ◌∙◌, subst, arith, option_map, option_and_then, slice_get}
+use Rattle.std.proofs.Common.{◌≡◌, ℕ, zero, suc, ◌+◌, ◌-◌, ◌<◌, ◌≤◌, List, [], ◌∷◌, length, get_or, drop, reverse, Option, Some, None, inl, inr, refl, sym}
+use Rattle.std.proofs.Common.{ap, ◌∙◌, subst, arith, option_map, option_and_then, slice_get}
 use Rattle.first_pass_grammar.proofs.Common.{cases_lt, drop_more, drop_all, get_or-reverse, length-map, length-reverse, Item, TreeIndex, IsOpenPath, depths}
-use Rattle.first_pass_grammar.proofs.Common.{Rest, after, front, Options}
+use Rattle.first_pass_grammar.proofs.Common.{Rest, after, front, Options, body_of}
 use Rattle.first_pass_grammar.specs.declared.kind.Container.{Container}
 use Rattle.first_pass_open.specs.Path.{container_of, container_at, prefix_of, with_container, path_in, outer}
-
-after_none : (r : Rest) → after [] r ≡ Some r
-unfolding after
-after_none r = refl
 
 pub after_step : (c : Option Container) (path : List Container) (r q : Rest) → after path r ≡ Some q → after (with_container c path) r ≡ prefix_of c q
 unfolding after
@@ -35,8 +31,7 @@ pub outer-more : (spine : List TreeIndex) (i : ℕ) (x : TreeIndex) → i < leng
 outer-more spine i x h =
     let z : length spine - (i + 1) + 1 ≡ length spine - i = omega arith in
     let y : length spine - 1 - i ≡ length spine - (i + 1) = omega arith in
-    drop_more spine (length spine - (i + 1)) x (omega arith) ∙ ap (λ k. get_or spine (length spine - (i + 1)) x ∷ drop k spine) z
-    ∙ ap (λ y. y ∷ outer i spine) (ap (λ k. get_or spine k x) (sym y) ∙ sym (get_or-reverse spine i x h))
+    rw (drop_more spine (length spine - (i + 1)) x (omega arith), get_or-reverse spine i x h, z, y) refl
 
 pub outer-none : (spine : List TreeIndex) → outer 0 spine ≡ []
 outer-none spine = let z : length spine - 0 ≡ length spine = omega arith in ap (λ k. drop k spine) z ∙ drop_all (length spine) spine (omega arith)
@@ -56,8 +51,7 @@ path_to-more options ns spine i x h = ap (path_in options ns) (outer-more spine 
 pub taken_more : (options : Options) (ns : List (ℕ × Item)) (spine : List TreeIndex) (i : ℕ) (x : TreeIndex) (r q : Rest)
     → i < length spine → after (path_to options ns spine i) r ≡ Some q
     → after (path_to options ns spine (i + 1)) r ≡ prefix_of (container_at options ns (get_or (reverse spine) i x)) q
-taken_more options ns spine i x r q h e = ap (λ c. after c r) (path_to-more options ns spine i x h)
-    ∙ after_step (container_at options ns (get_or (reverse spine) i x)) (path_to options ns spine i) r q e
+taken_more options ns spine i x r q h e = grind (arith, path_to-more, after_step)
 
 -- What holds at i, and each step from i on keeps, holds at each later number.
 pub kept_from : (P : ℕ → Type 0) (i n : ℕ) → i ≤ n → P i → ((m : ℕ) → i ≤ m → m < n → P m → P (m + 1)) → P n
@@ -97,23 +91,15 @@ open_within ns [] k x o h = absurd (omega arith)
 open_within ns (ix ∷ spine) zero x o h = subst (λ n. ix.0 < n) (length-map ns (λ n. n.0)) o.0.within
 open_within ns (ix ∷ spine) (suc k) x o h = open_within ns spine k x o.1 (omega arith)
 
-pub open_at : (ns : List (ℕ × Item)) (spine : List TreeIndex) (k : ℕ) (x : TreeIndex)
-    → IsOpenPath (depths ns) spine → k < length spine → (get_or (reverse spine) k x).0 < length ns
-open_at ns spine k x o h = subst (λ y. y.0 < length ns) (sym (get_or-reverse spine k x h)) (open_within ns spine (length spine - 1 - k) x o (omega arith))
-
-container_of_node : (options : Options) (n : Option (ℕ × Item)) (item : Item)
-    → option_map (λ n. n.1) n ≡ Some item → option_and_then (container_of options) (option_map (λ n. n.1.body) n) ≡ container_of options item.body
-container_of_node options None item e = cc
-container_of_node options (Some n) item e = ap (λ o. elim o [ None ↦ None | Some x ↦ container_of options x.body ]) e
-
 -- The container at a place is that of the item there.
 pub container_is : (options : Options) (ns : List (ℕ × Item)) (ix : TreeIndex) (item : Item)
     → option_map (λ n. n.1) (slice_get ns ix.0) ≡ Some item → container_at options ns ix ≡ container_of options item.body
-container_is options ns ix item e = container_of_node options (slice_get ns ix.0) item e
+container_is options ns ix item e = ap (option_and_then (container_of options)) (body_of (record { nodes = ns; spine = []; current = None }) ix item e)
 
 -- Every line continues the outermost 0 open nodes, and nothing is taken.
 pub taken_none : (options : Options) (ns : List (ℕ × Item)) (spine : List TreeIndex) (r : Rest) → after (path_in options ns (outer 0 spine)) r ≡ Some r
-taken_none options ns spine r = ap (λ s. after (path_in options ns s) r) (outer-none spine) ∙ after_none r
+unfolding after
+taken_none options ns spine r = ap (λ s. after (path_in options ns s) r) (outer-none spine)
 
 abbrev pub root : TreeIndex
 root = record { 0 = 0 }
@@ -125,7 +111,8 @@ in_spine spine places i e h = subst (λ n. i < n) (ap length e ∙ length-revers
 pub place_within : (ns : List (ℕ × Item)) (spine places : List TreeIndex) (i : ℕ)
     → IsOpenPath (depths ns) spine → places ≡ reverse spine → i < length places → (get_or places i root).0 < length ns
 place_within ns spine places i o e h =
-    subst (λ (xs : List TreeIndex). (get_or xs i root).0 < length ns) (sym e) (open_at ns spine i root o (in_spine spine places i e h))
+    let within = in_spine spine places i e h in
+    rw (e, get_or-reverse spine i root within) (open_within ns spine (length spine - 1 - i) root o (omega arith))
 
 -- The rest after one more open node is what the prefix of its item leaves.
 pub node_taken : (options : Options) (ns : List (ℕ × Item)) (spine places : List TreeIndex) (i : ℕ) (item : Item) (r q : Rest)
@@ -134,5 +121,4 @@ pub node_taken : (options : Options) (ns : List (ℕ × Item)) (spine places : L
     → after (path_in options ns (outer (i + 1) spine)) r ≡ prefix_of (container_of options item.body) q
 node_taken options ns spine places i item r q e h is so_far =
     taken_more options ns spine i root r q (in_spine spine places i e h) so_far
-    ∙ ap (λ o. prefix_of o q) (container_is options ns (get_or (reverse spine) i root) item
-    (subst (λ (xs : List TreeIndex). option_map (λ n. n.1) (slice_get ns (get_or xs i root).0) ≡ Some item) e is))
+    ∙ ap (λ o. prefix_of o q) (container_is options ns (get_or (reverse spine) i root) item (rw e at is))

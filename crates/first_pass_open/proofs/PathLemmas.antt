@@ -1,13 +1,12 @@
 -- The containers among the open nodes, while nodes are added and opened; and a path at the end of the text.
-use Rattle.std.proofs.Common.{◌≡◌, ◌⊎◌, inl, inr, ℕ, zero, suc, ◌+◌, ◌<◌, ◌≤◌, nat_le, Bool, true, false, List, [], ◌∷◌, ◌++◌, length, slice_get}
-use Rattle.std.proofs.Common.{Option, if◌then◌else◌, MatchOption, is_some, Some, None, refl, ap, subst, ◌∙◌, arith, length-append, option_map}
-use Rattle.std.proofs.Common.{option_and_then}
+use Rattle.std.proofs.Common.{◌≡◌, ◌⊎◌, inl, inr, ℕ, zero, suc, ◌+◌, ◌<◌, ◌≤◌, Bool, true, false, List, [], ◌∷◌, ◌++◌, length, slice_get, Option}
+use Rattle.std.proofs.Common.{if◌then◌else◌, MatchOption, is_some, Some, None, refl, ap, subst, ◌∙◌, arith, length-append}
 use Rattle.first_pass_grammar.proofs.Common.{or-true, nat_tests, length-map, Item, TreeIndex, Forest, IsOpenPath, depths, appended, pushed, at_depth}
-use Rattle.first_pass_grammar.proofs.Common.{at_line_end, Rest, column_of, column_of_byte, indent, after_columns, after-none, line_rest, chained, leaves}
-use Rattle.first_pass_grammar.proofs.Common.{chained-spine, chained-nodes, has_columns, is_quote, prefix, after, or_shorter, front, Options}
+use Rattle.first_pass_grammar.proofs.Common.{at_line_end, Rest, column_of_byte, after_columns, after-none, line_rest, chained, leaves}
+use Rattle.first_pass_grammar.proofs.Common.{chained-spine, chained-nodes, has_columns, is_quote, prefix, after, front, Options}
 use Rattle.first_pass_grammar.specs.declared.kind.Container.{Container}
-use Rattle.first_pass_grammar.specs.declared.kind.Container.TheVariants.{BlockQuote, ListItem, FootnoteDefinition, Definition}
-use Rattle.first_pass_open.specs.Path.{container_of, container_at, prefix_of, columns_needed, is_quote_node, with_container, path_in, path_of}
+use Rattle.first_pass_grammar.specs.declared.kind.Container.TheVariants.{BlockQuote, ListItem}
+use Rattle.first_pass_open.specs.Path.{container_of, prefix_of, columns_needed, is_quote_node, with_container, path_in, path_of}
 
 -- each of these open nodes is one of the first n nodes
 abbrev pub AreIn : ℕ → List TreeIndex → Type 0
@@ -28,16 +27,13 @@ pub path_in-append : (options : Options) (ns more : List (ℕ × Item)) (spine :
     → AreIn (length ns) spine → path_in options (ns ++ more) spine ≡ path_in options ns spine
 path_in-append options ns more [] a = refl
 path_in-append options ns more (ix ∷ spine) a =
-    ap (λ n. with_container (option_and_then (container_of options) (option_map (λ n. n.1.body) n)) (path_in options (ns ++ more) spine))
-    (get_front ns more ix.0 a.0)
-    ∙ ap (with_container (container_at options ns ix)) (path_in-append options ns more spine a.1)
+    rw (get_front ns more ix.0 a.0, path_in-append options ns more spine a.1) refl
 
 -- A chain in the innermost open node does not change the path.
 pub path_of-chained : (options : Options) (f : Forest Item) (chain : List Item)
     → AreIn (length f.nodes) f.spine → path_of options (chained f chain) ≡ path_of options f
 path_of-chained options f chain a =
-    ap (λ s. path_in options (chained f chain).nodes s) (chained-spine f chain)
-    ∙ ap (λ ns. path_in options ns f.spine) (chained-nodes f chain) ∙ path_in-append options f.nodes (at_depth (length f.spine + 1) (leaves chain)) f.spine a
+    rw (chained-spine f chain, chained-nodes f chain) (path_in-append options f.nodes (at_depth (length f.spine + 1) (leaves chain)) f.spine a)
 
 byte_none : (r : Rest) (bs : List ℕ) → at_line_end bs ≡ true → column_of_byte r bs ≡ None
 byte_none r [] h = refl
@@ -49,25 +45,19 @@ pub record IsOver (r : Rest) : Type 0 where
   pub ends : at_line_end r.left ≡ true
 
 columns_passed : (n : ℕ) (r : Rest) → IsOver r → (if has_columns n r then Some (after_columns n r) else None) ≡ Some r
-columns_passed n r o =
-    rw (after-none n r (ap (λ k. column_of k r) o.none ∙ byte_none r r.left o.ends), o.ends, or-true (nat_le n (indent r))) refl
+columns_passed n r o = grind (arith, after-none, byte_none, or-true)
 
 -- Such a line continues a container that is no block quote, and nothing is taken.
 pub passed : (c : Container) (r : Rest) → IsOver r → is_quote c ≡ false → prefix c r ≡ Some r
 unfolding prefix
 passed (BlockQuote kind) r o h = absurd cc
-passed (ListItem n) r o h = columns_passed n r o
-passed (FootnoteDefinition n) r o h = columns_passed n r o
-passed (Definition n) r o h = columns_passed n r o
+passed c r o h = columns_passed _ r o
 
 -- The prefix of a container that needs n columns is that of a list item with n columns.
 pub columns_prefix : (o : Option Container) (n : ℕ) (r : Rest) → columns_needed o ≡ Some n → prefix_of o r ≡ prefix (ListItem n) r
 unfolding prefix
-columns_prefix None n r e = absurd cc
-columns_prefix (Some (BlockQuote kind)) n r e = absurd cc
-columns_prefix (Some (ListItem k)) n r e = let same : k ≡ n = cc in rw same refl
-columns_prefix (Some (FootnoteDefinition k)) n r e = let same : k ≡ n = cc in rw same refl
-columns_prefix (Some (Definition k)) n r e = let same : k ≡ n = cc in rw same refl
+columns_prefix (Some (BlockQuote kind)) n r e = cc
+columns_prefix o n r e = cc
 
 -- The prefix of a block quote is the same for all kinds.
 pub quote_prefix : (o : Option Container) (r : Rest) → is_quote_node o ≡ true → prefix_of o r ≡ prefix (BlockQuote None) r
@@ -77,17 +67,10 @@ quote_prefix o r e = absurd cc
 
 -- A node that needs no columns and is no block quote has an empty prefix.
 pub empty_prefix : (o : Option Container) (r : Rest) → columns_needed o ≡ None → is_quote_node o ≡ false → prefix_of o r ≡ Some r
-empty_prefix None r e q = refl
-empty_prefix (Some (BlockQuote kind)) r e q = absurd cc
-empty_prefix o r e q = absurd cc
+empty_prefix (Some (BlockQuote kind)) r e q = cc
+empty_prefix o r e q = cc
 
--- what a call that takes a prefix returns, for an equal prefix
-pub by_prefix : (o p : Option Rest) (b : Bool) (old new : Rest) → o ≡ p
-    → MatchOption p ((b ≡ false) × (new ≡ old)) (λ next. (b ≡ true) × (new ≡ next))
-    → MatchOption o ((b ≡ false) × (new ≡ old)) (λ next. (b ≡ true) × (new ≡ next))
-by_prefix o p b old new e m = rw e m
-
--- the same for a call that returns an offset with the prefix
+-- what a call that takes a prefix returns, from a call that takes an equal prefix and returns an offset
 pub by_quote : (o p : Option Rest) (b : Bool) (found : Option ℕ) (n : ℕ) (old new : Rest) → o ≡ p → b ≡ is_some found
     → MatchOption p ((found ≡ None) × (new ≡ old)) (λ next. (found ≡ Some n) × (new ≡ next))
     → MatchOption o ((b ≡ false) × (new ≡ old)) (λ next. (b ≡ true) × (new ≡ next))
@@ -105,34 +88,29 @@ unfolding after
 after-end [] = inr refl
 after-end (c ∷ path) = elim (after-end path) [ inl none ↦ inl (rw none refl) | inr some ↦ rw some (end_prefix c) ]
 
-front_by : (o : Option Rest) (r q : Rest) → (o ≡ None) ⊎ (o ≡ Some r) → q ≡ r → or_shorter o q ≡ r
-front_by None r q h e = e
-front_by (Some x) r q (inl none) e = cc
-front_by (Some x) r q (inr some) e = cc
-
 pub front-end : (path : List Container) → front path (line_rest []) ≡ line_rest []
 unfolding front
 front-end [] = refl
-front-end (c ∷ path) = front_by (after (c ∷ path) (line_rest [])) (line_rest []) (front path (line_rest [])) (after-end (c ∷ path)) (front-end path)
+front-end (c ∷ path) = elim (after-end (c ∷ path)) [ inl none ↦ rw none (front-end path) | inr some ↦ rw some refl ]
 
 pub AreIn-more : (n m : ℕ) (spine : List TreeIndex) → n ≤ m → AreIn n spine → AreIn m spine
 AreIn-more n m [] h a = tt
 AreIn-more n m (ix ∷ spine) h a = (let w : ix.0 < n = a.0 in omega arith, AreIn-more n m spine h a.1)
 
+pub get_after : {T : Type 0} (ns more : List T) (n : T) (i : ℕ) → i ≡ length ns → slice_get (ns ++ n ∷ more) i ≡ Some n
+get_after [] more n zero at = refl
+get_after [] more n (suc i) at = absurd (omega arith)
+get_after (m ∷ ns) more n zero at = absurd (omega arith)
+get_after (m ∷ ns) more n (suc i) at = get_after ns more n i (omega arith)
+
 pub get_last : (ns : List (ℕ × Item)) (x : ℕ × Item) (i : ℕ) → i ≡ length ns → slice_get (ns ++ x ∷ []) i ≡ Some x
-get_last [] x zero h = refl
-get_last [] x (suc i) h = absurd (omega arith)
-get_last (n ∷ ns) x zero h = absurd (omega arith)
-get_last (n ∷ ns) x (suc i) h = get_last ns x i (omega arith)
+get_last ns x i at = get_after ns [] x i at
 
 -- If a node is opened, its container is added to the path, if it is one.
 pub path_of-opened : (options : Options) (g : Forest Item) (x : Item) (ix : TreeIndex) → ix.0 ≡ length g.nodes → AreIn (length g.nodes) g.spine
     → path_of options (pushed (appended g x) ix) ≡ with_container (container_of options x.body) (path_of options g)
 path_of-opened options g x ix at a =
-    ap (λ n.
-    with_container (option_and_then (container_of options) (option_map (λ n. n.1.body) n)) (path_in options (g.nodes ++ (length g.spine + 1, x) ∷ []) g.spine))
-    (get_last g.nodes (length g.spine + 1, x) ix.0 at)
-    ∙ ap (with_container (container_of options x.body)) (path_in-append options g.nodes ((length g.spine + 1, x) ∷ []) g.spine a)
+    rw (get_last g.nodes (length g.spine + 1, x) ix.0 at, path_in-append options g.nodes ((length g.spine + 1, x) ∷ []) g.spine a) refl
 
 pub opened_in : (g : Forest Item) (x : Item) (ix : TreeIndex)
     → ix.0 ≡ length g.nodes → AreIn (length g.nodes) g.spine → AreIn (length (pushed (appended g x) ix).nodes) (ix ∷ g.spine)

@@ -1,21 +1,20 @@
 -- What is taken from a line, indentation, prefixes or markers, ends at a place of the text in the same line.
-use Rattle.std.proofs.Common.{◌≡◌, inl, inr, ◌≤◌, ℕ, ◌+◌, ◌-◌, ◌<◌, zero, suc, nat_lt, Bool, true, if◌then◌else◌, List, [], ◌∷◌, length, drop}
-use Rattle.std.proofs.Common.{MatchOption, Option, Some, None, IsUtf8, IsCharBoundary, refl, sym, ap, subst, ◌∙◌, arith, length-drop, option_map}
-use Rattle.first_pass_grammar.proofs.Common.{drop_all, prefix_len-le-length, cases_lt, cond_some, Item, TaskListMarker, Options, has, is_task_marker}
-use Rattle.first_pass_grammar.proofs.Common.{is_content, line_len, item_of, definition_of, task_of, IsMarked, item-marked, definition-marked, Rest}
-use Rattle.first_pass_grammar.proofs.Common.{next_column, after_columns, indent, past_bytes, past_quote, Place, line_rest, place_at, offset, line_end}
-use Rattle.first_pass_grammar.proofs.Common.{IsPlaceOf, after-more, after-none, line_is_place, columns_keep, columns_line_end, columns_shorter, has_columns}
-use Rattle.first_pass_grammar.proofs.Common.{prefix, after, or_shorter, front, all_taken, unindented, definition_marker_at, task_by, task_after, some_if}
-use Rattle.first_pass_grammar.proofs.Common.{some_mapped}
+use Rattle.std.proofs.Common.{◌≡◌, inl, inr, ◌≤◌, ℕ, ◌+◌, ◌<◌, zero, suc, Bool, true, if◌then◌else◌, List, [], ◌∷◌, length, drop, MatchOption, Option}
+use Rattle.std.proofs.Common.{Some, None, IsUtf8, IsCharBoundary, refl, sym, ap, subst, ◌∙◌, arith, option_map}
+use Rattle.first_pass_grammar.proofs.Common.{drop_all, cases_lt, cond_some, Item, Options, has, is_task_marker, line_len}
+use Rattle.first_pass_grammar.proofs.Common.{task_of, IsMarked, Rest, next_column, after_columns}
+use Rattle.first_pass_grammar.proofs.Common.{indent, past_quote, Place, line_rest, place_at, offset, line_end, IsPlaceOf, after-more, after-none}
+use Rattle.first_pass_grammar.proofs.Common.{line_is_place, columns_keep, columns_line_end, columns_shorter, has_columns, prefix, after, or_shorter, front}
+use Rattle.first_pass_grammar.proofs.Common.{all_taken, unindented, definition_marker_at, task_by, task_after, some_if, some_mapped, same_Some}
 use Rattle.std.proofs.lemmas.Option.{option_and_then_some}
 use Rattle.first_pass_scan.proofs.MarkerPlaces.{task-marked, marked-keeps, marked-line_end}
 use Rattle.first_pass_lines.proofs.LineFacts.{line_len-none}
 use Rattle.first_pass_lines.proofs.Columns.{all-more}
-use Rattle.first_pass_lines.proofs.PlaceFacts.{place_line_end, quote_keeps, quote_line_end}
-use Rattle.first_pass_lines.proofs.PlaceFacts.{quote_shorter}
+use Rattle.first_pass_lines.proofs.PlaceFacts.{place_line_end, quote_keeps, quote_line_end, quote_shorter}
 use Rattle.first_pass_grammar.specs.declared.kind.Container.{Container}
-use Rattle.first_pass_grammar.specs.declared.kind.Container.TheVariants.{BlockQuote, ListItem, FootnoteDefinition, Definition}
+use Rattle.first_pass_grammar.specs.declared.kind.Container.TheVariants.{BlockQuote}
 use Rattle.first_pass_grammar.specs.Kinds.{item_at}
+use Rattle.first_pass_grammar.proofs.Sequences.PlacesKept.{marked_less, item_marked, marked_definition, item_shorter}
 
 -- It makes no difference if some of the columns are taken before all others.
 pub all_after : (k : ℕ) (r : Rest) → after_columns (indent (after_columns k r)) (after_columns k r) ≡ after_columns (indent r) r
@@ -55,9 +54,7 @@ prefix_keeps text line (BlockQuote kind) r s u e i =
     let f = columns_stay text line 3 r u i in
     let g = columns_stay text line 1 m.0 u (quote_keeps text line q m.0 u m.1 f.0) in
     subst (StaysInLine text line r) m.2 (g.0, g.1 ∙ quote_line_end line q m.0 m.1 ∙ f.1)
-prefix_keeps text line (ListItem n) r s u e i = columns_prefix text line n r s u e i
-prefix_keeps text line (FootnoteDefinition n) r s u e i = columns_prefix text line n r s u e i
-prefix_keeps text line (Definition n) r s u e i = columns_prefix text line n r s u e i
+prefix_keeps text line c r s u e i = columns_prefix text line _ r s u e i
 
 -- The place after the prefixes of a path is one of the text, in the same line.
 pub after_keeps : (text : List ℕ) (line : ℕ) (path : List Container) (r s : Rest) → IsUtf8 text → after path r ≡ Some s → IsPlaceOf text (place_at line r)
@@ -80,6 +77,10 @@ front_keeps text line (c ∷ path) r u i = by (after (c ∷ path) r) refl (front
     by None e f = f
     by (Some s) e f = after_keeps text line (c ∷ path) r s u e i
 
+-- The end of the line that begins at an offset is the offset and the length of the line.
+pub line_start_end : (text : List ℕ) (start : ℕ) → line_end (place_at start (line_rest (drop start text))) ≡ start + line_len (drop start text)
+line_start_end text start = omega arith
+
 -- The place after the indentation of the front is one of the text, in the same line.
 pub text_place : (text : List ℕ) (s : ℕ) (path : List Container) → IsUtf8 text → IsCharBoundary text s
     → (
@@ -88,36 +89,29 @@ pub text_place : (text : List ℕ) (s : ℕ) (path : List Container) → IsUtf8 
 text_place text s path u b =
     let f = front_keeps text s path (line_rest (drop s text)) u (line_is_place text s b) in
     let r : Rest = front path (line_rest (drop s text)) in
-    let z : s + 0 ≡ s = omega arith in
-    (all_keep text s r u f.0, columns_line_end (indent r) (place_at s r) ∙ f.1 ∙ ap (λ k. k + line_len (drop s text)) z)
+    (all_keep text s r u f.0, columns_line_end (indent r) (place_at s r) ∙ f.1 ∙ line_start_end text s)
 
 -- A block quote marker takes a byte.
 pub quote_less : (r s : Rest) (o : Option Rest) → past_quote r ≡ o → option_map (after_columns 1) o ≡ Some s → length s.left < length r.left
 quote_less r s o q e =
     let m = some_mapped (after_columns 1) o s e in
-    let l = ap (λ (z : Rest). length z.left) m.2 in
-    let a = columns_shorter 1 m.0 in
-    let b = quote_shorter r m.0 (q ∙ m.1) in
-    omega arith
+    omega (arith, ap (λ (z : Rest). length z.left) m.2, columns_shorter 1 m.0, quote_shorter r m.0 (q ∙ m.1))
 
 -- The prefix of a block quote takes a byte.
 pub quote_prefix_shorter : (r s : Rest) → prefix (BlockQuote None) r ≡ Some s → length s.left < length r.left
 unfolding prefix
-quote_prefix_shorter r s e =
-    let a = quote_less (after_columns 3 r) s (past_quote (after_columns 3 r)) refl e in
-    let b = columns_shorter 3 r in
-    omega arith
+quote_prefix_shorter r s e = omega (arith, quote_less (after_columns 3 r) s (past_quote (after_columns 3 r)) refl e, columns_shorter 3 r)
 
 -- If a block quote marker was found, this is the place after it, and the number of bytes before it.
 pub quote_taken : (o : Option Rest) (found : Option ℕ) (n at : ℕ) (old new : Rest)
     → found ≡ Some at → MatchOption o ((found ≡ None) × (new ≡ old)) (λ next. (found ≡ Some n) × (new ≡ next)) → (o ≡ Some new) × (at ≡ n)
-quote_taken None found n at old new e m = let z : None ≡ Some at = sym m.0 ∙ e in (cc, cc)
-quote_taken (Some r) found n at old new e m = let z : Some n ≡ Some at = sym m.0 ∙ e in (ap Some (sym m.1), cc)
+quote_taken None found n at old new e m = (cc, cc)
+quote_taken (Some r) found n at old new e m = (cc, cc)
 
 pub quote_absent : (o : Option Rest) (found : Option ℕ) (n : ℕ) (old new : Rest)
     → found ≡ None → MatchOption o ((found ≡ None) × (new ≡ old)) (λ next. (found ≡ Some n) × (new ≡ next)) → (o ≡ None) × (new ≡ old)
 quote_absent None found n old new e m = (refl, m.1)
-quote_absent (Some r) found n old new e m = let z : None ≡ Some n = sym e ∙ m.0 in (cc, cc)
+quote_absent (Some r) found n old new e m = (cc, cc)
 
 -- The offset after a part is taken at a place is the same, computed from either of two equal places.
 pub read_to : (f : Rest → Rest) (n : ℕ) (p q : Place) (s : Rest)
@@ -128,24 +122,12 @@ no_line : (bs : List ℕ) → length bs ≤ 0 → line_len bs ≡ 0
 no_line [] h = line_len-none
 no_line (b ∷ bs) h = absurd (omega arith)
 
-end_empty : (p : Place) → length p.rest.left ≤ 0 → line_end p ≡ offset p
-end_empty p h = let l = no_line p.rest.left h in omega arith
-
 -- A line ends between characters.
 pub place_end : (text : List ℕ) (p : Place) → IsUtf8 text → IsPlaceOf text p → IsCharBoundary text (line_end p)
 place_end text p u i = elim (cases_lt 0 (length p.rest.left)) [
   | inl some ↦ place_line_end text p u i some
-  | inr none ↦ (let e = end_empty p none in subst (IsCharBoundary text) (sym e) i.boundary)
+  | inr none ↦ (let e : line_end p ≡ offset p = omega (arith, no_line p.rest.left none) in subst (IsCharBoundary text) (sym e) i.boundary)
 ]
-
--- The end of the line that begins at an offset is the offset and the length of the line.
-pub line_start_end : (text : List ℕ) (start : ℕ) → line_end (place_at start (line_rest (drop start text))) ≡ start + line_len (drop start text)
-line_start_end text start = let z : start + 0 ≡ start = omega arith in ap (λ k. k + line_len (drop start text)) z
-
--- If a list item begins here, its marker follows the indentation.
-item_marked : (r : Rest) (item : (ℕ × ℕ × ℕ) × Rest) → item_at r ≡ Some item → IsMarked (all_taken r) item.1
-unfolding item_at
-item_marked r item h = item-marked (indent r) (all_taken r) item (some_if (nat_lt (indent r) 4) (item_of (indent r) (all_taken r)) item h).1
 
 -- The place after columns and a marker is one of the text, in the same line, with fewer bytes left.
 marked_stays : (text : List ℕ) (line n : ℕ) (r s : Rest)
@@ -154,75 +136,49 @@ marked_stays text line n r s u m i =
     let f = columns_stay text line n r u i in
     (marked-keeps text line (after_columns n r) s u m f.0, marked-line_end line (after_columns n r) s m ∙ f.1)
 
-pub marked_shorter : (r s : Rest) → IsMarked r s → length s.left < length r.left
-marked_shorter r s m =
-    let q : Rest = past_bytes m.width r in
-    let b = columns_shorter m.first q in
-    let c = columns_shorter m.further (after_columns m.first q) in
-    let p = m.within in
-    let n = prefix_len-le-length is_content r.left in
-    let some = m.some in
-    let l : length q.left ≡ length r.left - m.width = length-drop m.width r.left in
-    let e : length s.left ≡ length (after_columns m.further (after_columns m.first q)).left = ap (λ (z : Rest). length z.left) m.same in
-    omega arith
-
-marked_less : (n : ℕ) (r s : Rest) → IsMarked (after_columns n r) s → length s.left < length r.left
-marked_less n r s m = omega (arith, marked_shorter (after_columns n r) s m, columns_shorter n r)
-
 -- The place after a list item's marker is one of the text, in the same line.
 pub item_keeps : (text : List ℕ) (line : ℕ) (r : Rest) (item : (ℕ × ℕ × ℕ) × Rest) → IsUtf8 text → item_at r ≡ Some item → IsPlaceOf text (place_at line r)
     → StaysInLine text line r item.1
 item_keeps text line r item u h i = marked_stays text line (indent r) r item.1 u (item_marked r item h) i
-
-pub item_shorter : (r : Rest) (item : (ℕ × ℕ × ℕ) × Rest) → item_at r ≡ Some item → length item.1.left < length r.left
-item_shorter r item h = marked_less (indent r) r item.1 (item_marked r item h)
-
--- If a definition begins here, its marker follows the indentation.
-marked_definition : (r : Rest) (definition : ℕ × Rest) → definition_marker_at r ≡ Some definition → IsMarked (all_taken r) definition.1
-unfolding definition_marker_at
-marked_definition r definition h =
-    definition-marked (indent r) (all_taken r) definition (some_if (nat_lt (indent r) 4) (definition_of (indent r) (all_taken r)) definition h).1
 
 -- The place after a definition's marker is one of the text, in the same line.
 pub definition_keeps : (text : List ℕ) (line : ℕ) (r : Rest) (definition : ℕ × Rest)
     → IsUtf8 text → definition_marker_at r ≡ Some definition → IsPlaceOf text (place_at line r) → StaysInLine text line r definition.1
 definition_keeps text line r definition u h i = marked_stays text line (indent r) r definition.1 u (marked_definition r definition h) i
 
-pub definition_shorter : (r : Rest) (definition : ℕ × Rest) → definition_marker_at r ≡ Some definition → length definition.1.left < length r.left
-definition_shorter r definition h = marked_less (indent r) r definition.1 (marked_definition r definition h)
-
 pub task_shorter : (r : Rest) (task : Bool × Rest) → task_of r ≡ Some task → length task.1.left < length r.left
 task_shorter r task h = marked_less 3 r task.1 (task-marked r task h)
 
+-- the place before `q` is one of the text, in the line of the place before `r`, with no more bytes left than there
+abbrev pub StaysAndTakes : List ℕ → ℕ → Rest → Rest → Type 0
+StaysAndTakes text line r q =
+    IsPlaceOf text (place_at line q) × (line_end (place_at line q) ≡ line_end (place_at line r)) × (length q.left ≤ length r.left)
+
 -- The place after a task list item marker is one of the text, in the same line, with no more bytes left than before.
 pub task_keeps : (text : List ℕ) (line : ℕ) (r : Rest) (task : Bool × Rest) → IsUtf8 text → task_of r ≡ Some task → IsPlaceOf text (place_at line r)
-    → IsPlaceOf text (place_at line task.1) × (line_end (place_at line task.1) ≡ line_end (place_at line r)) × (length task.1.left ≤ length r.left)
+    → StaysAndTakes text line r task.1
 task_keeps text line r task u h i =
     let f = marked_stays text line 3 r task.1 u (task-marked r task h) i in
     (f.0, f.1, omega (arith, task_shorter r task h))
 
 pub task_found : (o : Option (Bool × Rest)) (found : Option Bool) (checked : Bool) (old new : Rest)
     → found ≡ Some checked → MatchOption o ((found ≡ None) × (new ≡ old)) (λ task. (found ≡ Some task.0) × (new ≡ task.1)) → o ≡ Some (checked, new)
-task_found None found checked old new e h = (let z : None ≡ Some checked = sym h.0 ∙ e in cc)
-task_found (Some task) found checked old new e h = (let z : Some task.0 ≡ Some checked = sym h.0 ∙ e in let w : task.0 ≡ checked = cc in
-    ap (λ k. Some (k, task.1)) w ∙ ap (λ (q : Rest). Some (checked, q)) (sym h.1))
+task_found None found checked old new e h = cc
+task_found (Some task) found checked old new e h =
+    (let same : task.0 ≡ checked = cc in ap (λ k. Some (k, task.1)) same ∙ ap (λ (q : Rest). Some (checked, q)) (sym h.1))
 
 -- The place after a task list item marker, if there is one, is one of the text, in the same line.
 following_by : (text : List ℕ) (line : ℕ) (r : Rest) (o : Option (Bool × Rest))
     → ((task : Bool × Rest) → o ≡ Some task → task_of r ≡ Some task) → IsUtf8 text → IsPlaceOf text (place_at line r)
-    → (
-    let q : Rest = (task_by line r o).1 in
-    IsPlaceOf text (place_at line q) × (line_end (place_at line q) ≡ line_end (place_at line r)) × (length q.left ≤ length r.left))
+    → StaysAndTakes text line r (task_by line r o).1
 following_by text line r None h u i = (i, refl, omega arith)
 following_by text line r (Some task) h u i = task_keeps text line r task u (h task refl) i
 
 pub option_on : (t : Bool) (o : Option (Bool × Rest)) (task : Bool × Rest) → (if t then o else None) ≡ Some task → o ≡ Some task
 option_on t o task h = (some_if t o task h).1
 
-pub past_keeps : (text : List ℕ) (options : Options) (line : ℕ) (r : Rest) → IsUtf8 text → IsPlaceOf text (place_at line r)
-    → (
-    let q : Rest = (task_after options line r).1 in
-    IsPlaceOf text (place_at line q) × (line_end (place_at line q) ≡ line_end (place_at line r)) × (length q.left ≤ length r.left))
+past_keeps : (text : List ℕ) (options : Options) (line : ℕ) (r : Rest) → IsUtf8 text → IsPlaceOf text (place_at line r)
+    → StaysAndTakes text line r (task_after options line r).1
 past_keeps text options line r u i =
     following_by text line r (if has options 16 then task_of r else None) (λ task h. option_on (has options 16) (task_of r) task h) u i
 
@@ -235,15 +191,12 @@ markers_keep text options line r item new u is rest i =
     let k = item_keeps text line r item u is i in
     let b = past_keeps text options line item.1 u k.0 in
     let s = item_shorter r item is in
-    let e = ap (λ (q : Rest). length q.left) rest in
-    (subst (λ q. IsPlaceOf text (place_at line q)) (sym rest) b.0, ap (λ q. line_end (place_at line q)) rest ∙ b.1 ∙ k.1, let l = b.2 in omega arith)
+    rw rest (b.0, b.1 ∙ k.1, omega (arith, b.2))
 
 -- What is found after an item's own marker is a task list item marker.
 mark_by : (line : ℕ) (r : Rest) (o : Option (Bool × Rest)) (x : Item) → (task_by line r o).0 ≡ Some x → is_task_marker x.body ≡ true
 mark_by line r None x h = cc
-mark_by line r (Some task) x h = (
-    let e : record { start = offset (place_at line r); «end» = offset (place_at line task.1); body = TaskListMarker task.0 } ≡ x = cc in
-    sym (ap (λ (i : Item). is_task_marker i.body) e))
+mark_by line r (Some task) x h = subst (λ (i : Item). is_task_marker i.body ≡ true) (same_Some _ x h) refl
 
 pub mark_is_task : (options : Options) (line : ℕ) (r : Rest) (x : Item) → (task_after options line r).0 ≡ Some x → is_task_marker x.body ≡ true
 mark_is_task options line r x h = mark_by line r (if has options 16 then task_of r else None) x h

@@ -1,15 +1,15 @@
 -- If a plain or an inert byte is next (`is_plain`, `is_inert`), there is no indentation. No list item or block quote
 -- begins there.
 use Rattle.std.proofs.Common.{◌≡◌, min, true, Bool, List, [], ◌∷◌, not, Option, Some, None, is_some, refl, sym, ap, ◌∙◌, if◌then◌else◌}
-use Rattle.std.proofs.Common.{option_and_then}
-use Rattle.first_pass_grammar.proofs.Common.{not-true, cond_some, none-some, none_is, BlockQuoteKind, Rest, next_column, indent, after_columns}
-use Rattle.first_pass_grammar.proofs.Common.{begins_plain, inert_indent, after, has_columns, or_shorter, prefix, all_taken}
+use Rattle.first_pass_grammar.proofs.Common.{not-true, cond_some, none-some, none_is, BlockQuoteKind, Rest, next_column, indent, begins_plain, inert_indent}
+use Rattle.first_pass_grammar.proofs.Common.{after, prefix, all_taken}
+use Rattle.std.proofs.lemmas.Option.{option_and_then_some}
 use Rattle.first_pass_lines.proofs.Columns.{all-none}
 use Rattle.first_pass_lines.specs.Plain.{begins_inert}
 use Rattle.first_pass_scan.proofs.ColumnFacts.{no_column}
 use Rattle.first_pass_scan.proofs.PlainFacts.{plain_after, inert_after, inert_quote, inert_item}
 use Rattle.first_pass_grammar.specs.declared.kind.Container.{Container}
-use Rattle.first_pass_grammar.specs.declared.kind.Container.TheVariants.{BlockQuote, ListItem, FootnoteDefinition, Definition}
+use Rattle.first_pass_grammar.specs.declared.kind.Container.TheVariants.{BlockQuote}
 use Rattle.first_pass_grammar.specs.Kinds.{item_at}
 
 pub plain_all : (r : Rest) → r.owed ≡ 0 → begins_plain r.left ≡ true → all_taken r ≡ r
@@ -36,9 +36,6 @@ pub inert_item_at : (r : Rest) → r.owed ≡ 0 → begins_inert r.left ≡ true
 unfolding item_at
 inert_item_at r o h = rw (inert_indent r o h) (rw (inert_item 0 r o h) refl)
 
-same_some : (r s q : Rest) → s ≡ r → Some s ≡ Some q → q ≡ r
-same_some r s q e is = sym (ap (λ o. or_shorter o r) is) ∙ e
-
 taken_if : (t : Bool) (r s q : Rest) → s ≡ r → (if t then Some s else None) ≡ Some q → q ≡ r
 taken_if t r s q e is = sym (cond_some t s q is).1 ∙ e
 
@@ -46,17 +43,11 @@ taken_if t r s q e is = sym (cond_some t s q is).1 ∙ e
 inert_next : (c : Container) (r q : Rest) → r.owed ≡ 0 → begins_inert r.left ≡ true → prefix c r ≡ Some q → q ≡ r
 unfolding prefix
 inert_next (BlockQuote kind) r q o h is = absurd (none-some q (sym (inert_prefix kind r o h) ∙ is))
-inert_next (ListItem n) r q o h is = taken_if (has_columns n r) r (after_columns n r) q (inert_after n r o h) is
-inert_next (FootnoteDefinition n) r q o h is = taken_if (has_columns n r) r (after_columns n r) q (inert_after n r o h) is
-inert_next (Definition n) r q o h is = taken_if (has_columns n r) r (after_columns n r) q (inert_after n r o h) is
-
-inert_then : (c : Container) (o : Option Rest) (r q : Rest) → ((m : Rest) → o ≡ Some m → m ≡ r) → r.owed ≡ 0 → begins_inert r.left ≡ true
-    → option_and_then (prefix c) o ≡ Some q → q ≡ r
-inert_then c None r q same owed h is = absurd (none-some q is)
-inert_then c (Some m) r q same owed h is = inert_next c r q owed h (sym (ap (prefix c) (same m refl)) ∙ is)
+inert_next c r q o h is = taken_if _ r _ q (inert_after _ r o h) is
 
 -- If an inert byte is next and the line continues a path, nothing is taken.
 pub inert_path : (path : List Container) (r q : Rest) → r.owed ≡ 0 → begins_inert r.left ≡ true → after path r ≡ Some q → q ≡ r
 unfolding after
-inert_path [] r q o h is = same_some r r q refl is
-inert_path (c ∷ path) r q o h is = inert_then c (after path r) r q (λ m e. inert_path path r m o h e) o h is
+inert_path [] r q o h is = cc
+inert_path (c ∷ path) r q o h is =
+    option_and_then_some (prefix c) (after path r) q is (λ m e k. inert_next c r q o h (sym (ap (prefix c) (inert_path path r m o h e)) ∙ k))

@@ -1,13 +1,12 @@
 -- A line of which only its end is left continues every open node that is no block quote.
-use Rattle.std.proofs.Common.{◌≡◌, ℕ, zero, suc, ◌+◌, ◌-◌, ◌<◌, ◌≤◌, ◌||◌, false, List, [], ◌∷◌, ◌++◌, length, get_or, take, reverse}
-use Rattle.std.proofs.Common.{Option, Some, None, refl, sym, ap, subst, ◌∙◌, arith, option_map, slice_get, take-append-drop}
-use Rattle.first_pass_grammar.proofs.Common.{or_parts, take_more, get_or-reverse, length-reverse, Item, Options, TreeIndex, Forest, at_depth}
-use Rattle.first_pass_grammar.proofs.Common.{Rest, chained, leaves, chained-spine}
-use Rattle.first_pass_grammar.proofs.Common.{chained-nodes, is_quote, after}
+use Rattle.std.proofs.Common.{◌≡◌, ℕ, zero, suc, ◌+◌, ◌-◌, ◌<◌, ◌≤◌, ◌||◌, false, List, [], ◌∷◌, ◌++◌, length, get_or, take, reverse, Option, Some, None}
+use Rattle.std.proofs.Common.{refl, sym, ap, ◌∙◌, arith, option_map, slice_get, take-append-drop}
+use Rattle.first_pass_grammar.proofs.Common.{or_parts, take_more, get_or-reverse, Item, Options, TreeIndex, Forest, at_depth, Rest, chained, leaves}
+use Rattle.first_pass_grammar.proofs.Common.{chained-spine, chained-nodes, is_quote, after}
 use Rattle.first_pass_grammar.specs.declared.kind.Container.{Container}
 use Rattle.first_pass_open.specs.Path.{container_of, container_at, with_container, path_in, path_of, outer, inner, is_quote_node, has_quote, has_quote_after}
 use Rattle.first_pass_open.proofs.PathLemmas.{AreIn, path_in-append, IsOver, passed}
-use Rattle.first_pass_open.proofs.FrontLemmas.{after_step, container_is, root}
+use Rattle.first_pass_open.proofs.FrontLemmas.{after_step, container_is, root, in_spine}
 
 -- If a line that is over is left after a path, it continues also containers inside the path, if none is a block quote.
 path_passed : (p path : List Container) (r s : Rest) → after path r ≡ Some s → IsOver s → has_quote p ≡ false → after (p ++ path) r ≡ Some s
@@ -22,9 +21,7 @@ with_append (Some c) p q = refl
 
 path_in-both : (options : Options) (ns : List (ℕ × Item)) (a b : List TreeIndex) → path_in options ns (a ++ b) ≡ path_in options ns a ++ path_in options ns b
 path_in-both options ns [] b = refl
-path_in-both options ns (ix ∷ a) b =
-    ap (with_container (container_at options ns ix)) (path_in-both options ns a b)
-    ∙ with_append (container_at options ns ix) (path_in options ns a) (path_in options ns b)
+path_in-both options ns (ix ∷ a) b = grind (arith, with_append, path_in-both options ns a b)
 
 quote_append : (p q : List Container) → has_quote p ≡ false → has_quote q ≡ false → has_quote (p ++ q) ≡ false
 quote_append [] q h k = k
@@ -69,19 +66,16 @@ pub none_after_more : (options : Options) (f : Forest Item) (places : List TreeI
     → option_map (λ n. n.1) (slice_get f.nodes (get_or places n root).0) ≡ Some item → is_quote_node (container_of options item.body) ≡ false
     → has_quote_after options f (n + 1) ≡ false → has_quote_after options f n ≡ false
 none_after_more options f places n item e h is other none =
-    let inside : n < length f.spine = subst (λ m. n < m) (ap length e ∙ length-reverse f.spine) h in
+    let inside = in_spine f.spine places n e h in
     let z : length f.spine - n ≡ (length f.spine - (n + 1)) + 1 = omega arith in
     let y : length f.spine - 1 - n ≡ length f.spine - (n + 1) = omega arith in
     let x : TreeIndex = get_or f.spine (length f.spine - (n + 1)) root in
-    let same : get_or places n root ≡ x =
-    ap (λ (xs : List TreeIndex). get_or xs n root) e ∙ get_or-reverse f.spine n root inside ∙ ap (λ m. get_or f.spine m root) y in
-    let node : container_at options f.nodes x ≡ container_of options item.body =
-    container_is options f.nodes x item (subst (λ (ix : TreeIndex). option_map (λ n. n.1) (slice_get f.nodes ix.0) ≡ Some item) same is) in
-    let parts : inner n f.spine ≡ inner (n + 1) f.spine ++ x ∷ [] =
-    ap (λ m. take m f.spine) z ∙ take_more f.spine (length f.spine - (n + 1)) root (omega arith) in
+    let same : get_or places n root ≡ x = rw (e, get_or-reverse f.spine n root inside, y) refl in
+    let node = container_is options f.nodes x item (rw same at is) in
+    let parts : inner n f.spine ≡ inner (n + 1) f.spine ++ x ∷ [] = rw z (take_more f.spine (length f.spine - (n + 1)) root (omega arith)) in
     let one : has_quote (path_in options f.nodes (x ∷ [])) ≡ false = one_none (container_at options f.nodes x) (ap is_quote_node node ∙ other) in
-    ap (λ s. has_quote (path_in options f.nodes s)) parts ∙ ap has_quote (path_in-both options f.nodes (inner (n + 1) f.spine) (x ∷ []))
-    ∙ quote_append (path_in options f.nodes (inner (n + 1) f.spine)) (path_in options f.nodes (x ∷ [])) none one
+    rw (parts, path_in-both options f.nodes (inner (n + 1) f.spine) (x ∷ []))
+    (quote_append (path_in options f.nodes (inner (n + 1) f.spine)) (path_in options f.nodes (x ∷ [])) none one)
 
 are_in-take : (n k : ℕ) (spine : List TreeIndex) → AreIn n spine → AreIn n (take k spine)
 are_in-take n zero spine a = tt
@@ -92,7 +86,5 @@ are_in-take n (suc k) (ix ∷ spine) a = (a.0, are_in-take n k spine a.1)
 pub quote_after-chained : (options : Options) (f : Forest Item) (chain : List Item) (n : ℕ) → AreIn (length f.nodes) f.spine
     → has_quote_after options (chained f chain) n ≡ has_quote_after options f n
 quote_after-chained options f chain n a =
-    ap (λ s. has_quote (path_in options (chained f chain).nodes (inner n s))) (chained-spine f chain)
-    ∙ ap (λ ns. has_quote (path_in options ns (inner n f.spine))) (chained-nodes f chain)
-    ∙ ap has_quote (path_in-append options f.nodes (at_depth (length f.spine + 1) (leaves chain)) (inner n f.spine)
-    (are_in-take (length f.nodes) (length f.spine - n) f.spine a))
+    rw (chained-spine f chain, chained-nodes f chain) (ap has_quote (path_in-append options f.nodes (at_depth (length f.spine + 1) (leaves chain))
+    (inner n f.spine) (are_in-take (length f.nodes) (length f.spine - n) f.spine a)))

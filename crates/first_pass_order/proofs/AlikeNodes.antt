@@ -1,7 +1,7 @@
 -- Nodes that differ only in what changes when nodes are closed and blank lines are noted: whether a list is loose,
 -- the indent of an item, and the meaning of a paragraph.
 use Rattle.std.proofs.Common.{◌≡◌, ℕ, zero, suc, ◌+◌, ◌==◌, Bool, true, false, if◌then◌else◌, List, [], ◌∷◌, nat_lt, slice_index, slice_get, Option, Some}
-use Rattle.std.proofs.Common.{None, is_some, refl, sym, ap, subst, ◌∙◌, bit_and, option_and_then}
+use Rattle.std.proofs.Common.{None, is_some, refl, ap, ◌∙◌, bit_and, option_and_then}
 use Rattle.first_pass_grammar.proofs.Common.{cond_both, same_Some, Item, ItemBody, Paragraph, DefinitionList, DefinitionListDefinition, DefinitionListTitle}
 use Rattle.first_pass_grammar.proofs.Common.{MaybeDefinitionListTitle, TreeIndex, body_of, Forest, depths, modify, with_body_at, body_at, item_at, pushed}
 use Rattle.first_pass_grammar.proofs.Common.{tight_body, tightened, tight_run, tight_at, tight_items, list_flags, is_row, is_cell, Names, index_of, Mark}
@@ -46,38 +46,27 @@ pub alike_itself : (nodes : List (ℕ × Item)) → AreAlike nodes nodes
 alike_itself [] = NoNodes
 alike_itself (n ∷ nodes) = OneMore n n nodes nodes (alike_node n) (alike_itself nodes)
 
-alike_tail : (n : ℕ × Item) (old new : List (ℕ × Item)) → AreAlike old new → AreAlike (n ∷ old) (n ∷ new)
-alike_tail n old new h = OneMore n n old new (alike_node n) h
-
 -- another such body at a place
 pub alike_body : (nodes : List (ℕ × Item)) (i : ℕ) (a b : ItemBody) → body_at nodes i ≡ Some a → IsBodyLike a b
     → AreAlike nodes (modify nodes i (λ x. record x { body = b }))
 alike_body [] i a b is like = NoNodes
 alike_body (n ∷ nodes) zero a b is like =
-    let e : n.1.body ≡ a = same_Some n.1.body a is in
-    OneMore n (n.0, record { start = n.1.start; «end» = n.1.«end»; body = b }) nodes nodes
-    (record { depth = refl; start = refl; «end» = refl; body = subst (λ c. IsBodyLike c b) (sym e) like }) (alike_itself nodes)
-alike_body (n ∷ nodes) (suc i) a b is like = alike_tail n nodes _ (alike_body nodes i a b is like)
+    OneMore _ _ _ _ (record { depth = refl; start = refl; «end» = refl; body = rw (same_Some n.1.body a is) like }) (alike_itself nodes)
+alike_body (n ∷ nodes) (suc i) a b is like = OneMore _ _ _ _ (alike_node n) (alike_body nodes i a b is like)
 
 -- the same end at a place of both; then one after the other
 pub alike_ended : (old new : List (ℕ × Item)) (i e : ℕ) → AreAlike old new
     → AreAlike (modify old i (λ x. record x { «end» = e })) (modify new i (λ x. record x { «end» = e }))
 alike_ended old new i e NoNodes = NoNodes
 alike_ended old new zero e (OneMore n m xs ys a h) =
-    OneMore (n.0, record { start = n.1.start; «end» = e; body = n.1.body }) (m.0, record { start = m.1.start; «end» = e; body = m.1.body }) xs ys
-    (record { depth = a.depth; start = a.start; «end» = refl; body = a.body }) h
+    OneMore _ _ _ _ (record { depth = a.depth; start = a.start; «end» = refl; body = a.body }) h
 alike_ended old new (suc i) e (OneMore n m xs ys a h) = OneMore n m _ _ a (alike_ended xs ys i e h)
 
 pub alike_both : (one two three : List (ℕ × Item)) → AreAlike one two → AreAlike two three → AreAlike one three
 alike_both one two three NoNodes h = h
 alike_both one two three (OneMore n m xs ys a h) (OneMore m2 l ys2 zs b k) =
     OneMore n l xs zs
-    (record {
-      depth = b.depth ∙ a.depth;
-      start = b.start ∙ a.start;
-      «end» = b.«end» ∙ a.«end»;
-      body = (b.body.0 ∙ a.body.0, λ t. a.body.1 (b.body.1 t));
-    })
+    (record { depth = b.depth ∙ a.depth; start = b.start ∙ a.start; «end» = b.«end» ∙ a.«end»; body = (b.body.0 ∙ a.body.0, λ t. a.body.1 (b.body.1 t)) })
     (alike_both xs ys zs h k)
 
 -- the paragraphs of a list become tight
@@ -102,7 +91,7 @@ alike_tight : (depth from : ℕ) (nodes : List (ℕ × Item)) → AreAlike nodes
 unfolding tight_at
 alike_tight depth zero nodes = alike_run depth nodes
 alike_tight depth (suc from) [] = NoNodes
-alike_tight depth (suc from) (n ∷ nodes) = alike_tail n nodes (tight_at depth from nodes) (alike_tight depth from nodes)
+alike_tight depth (suc from) (n ∷ nodes) = OneMore _ _ _ _ (alike_node n) (alike_tight depth from nodes)
 
 -- Trees of such nodes, in which the same nodes are open and current.
 pub record LooksAlike (f g : Forest Item) : Type 0 where
@@ -162,25 +151,23 @@ pub like_kept : (r : PassState) → LooksAlike r.tree (list_kept r).tree
 like_kept r = like_if r.blank r (loosened_top r.tree r.tree.spine) (top_like r.tree r.tree.spine)
 
 -- a blank line
-item_without_indent_like : (f : Forest Item) (s : List TreeIndex) (columns : ℕ)
-    → option_and_then (λ (ix : TreeIndex). body_at f.nodes ix.0) (slice_get s 0) ≡ Some (ListItemBody columns) → LooksAlike f (item_without_indent f s)
-item_without_indent_like f [] columns is = like_itself f
-item_without_indent_like f (ix ∷ rest) columns is = like_body f ix (ListItemBody columns) (ListItemBody 0) is (refl, λ h. h)
-
-definition_without_indent_like : (f : Forest Item) (s : List TreeIndex) (columns : ℕ)
-    → option_and_then (λ (ix : TreeIndex). body_at f.nodes ix.0) (slice_get s 0) ≡ Some (DefinitionListDefinition columns)
-    → LooksAlike f (definition_without_indent f s)
-definition_without_indent_like f [] columns is = like_itself f
-definition_without_indent_like f (ix ∷ rest) columns is =
-    like_body f ix (DefinitionListDefinition columns) (DefinitionListDefinition 0) is (refl, λ h. h)
+without_indent_like : (f : Forest Item) (s : List TreeIndex) (columns : ℕ) → (
+    let top = option_and_then (λ (ix : TreeIndex). body_at f.nodes ix.0) (slice_get s 0) in
+    (top ≡ Some (ListItemBody columns) → LooksAlike f (item_without_indent f s))
+    × (top ≡ Some (DefinitionListDefinition columns) → LooksAlike f (definition_without_indent f s)))
+without_indent_like f [] columns = (λ is. like_itself f, λ is. like_itself f)
+without_indent_like f (ix ∷ rest) columns = (
+  λ is. like_body f ix (ListItemBody columns) (ListItemBody 0) is (refl, λ h. h),
+  λ is. like_body f ix (DefinitionListDefinition columns) (DefinitionListDefinition 0) is (refl, λ h. h),
+)
 
 blank_by_like : (r : PassState) (b : Option ItemBody) → top_body r.tree ≡ b → LooksAlike r.tree (blank_read_by r b).tree
 blank_by_like r (Some (ListItemBody columns)) is =
     cond_both (is_some r.begin_list_item) (item_without_indent r.tree r.tree.spine) r.tree (LooksAlike r.tree)
-    (λ b. item_without_indent_like r.tree r.tree.spine columns is) (λ b. like_itself r.tree)
+    (λ b. (without_indent_like r.tree r.tree.spine columns).0 is) (λ b. like_itself r.tree)
 blank_by_like r (Some (DefinitionListDefinition columns)) is =
     cond_both (is_some r.begin_list_item) (definition_without_indent r.tree r.tree.spine) r.tree (LooksAlike r.tree)
-    (λ b. definition_without_indent_like r.tree r.tree.spine columns is) (λ b. like_itself r.tree)
+    (λ b. (without_indent_like r.tree r.tree.spine columns).1 is) (λ b. like_itself r.tree)
 blank_by_like r b is = like_itself r.tree
 
 pub like_blank : (r : PassState) → LooksAlike r.tree (blank_read r).tree

@@ -1,23 +1,21 @@
 -- The number of counted nodes: closing nodes and noting blank lines adds none, and opening a container adds one
 -- or two, with a byte for each.
-use Rattle.std.proofs.Common.{◌≡◌, ℕ, zero, suc, ◌+◌, ◌<◌, ◌≤◌, Bool, true, false, if◌then◌else◌, List, [], ◌∷◌, ◌++◌, length, slice_get, map, take, drop}
-use Rattle.std.proofs.Common.{Option, Some, None, is_some, refl, sym, ap, subst, ◌∙◌, inl, inr, arith}
-use Rattle.first_pass_grammar.proofs.Common.{cases_Bool, Options, has, Item, ItemBody, Paragraph, DefinitionList, DefinitionListTitle}
-use Rattle.first_pass_grammar.proofs.Common.{MaybeDefinitionListTitle, TreeIndex, Forest, body_at, modify, map_from, deeper, shallower, with_end, body_of}
-use Rattle.first_pass_grammar.proofs.Common.{blank_len, task_of, Rest, Place, place_at, offset, line_end, IsPlaceOf, line_len-some, place_length}
-use Rattle.first_pass_grammar.proofs.Common.{list_flags, Kind, Blank, is_blank_rest, first_kind, IsKindBy, IsKind, task_by, task_after, is_cell, is_row}
-use Rattle.first_pass_grammar.proofs.Common.{is_inserted_after, own, counted_nodes, GrowsBy, CowIndex}
+use Rattle.std.proofs.Common.{◌≡◌, ℕ, zero, suc, ◌+◌, ◌<◌, ◌≤◌, Bool, false, if◌then◌else◌, List, [], ◌∷◌, ◌++◌, length, map, take, drop, Option, Some, None}
+use Rattle.std.proofs.Common.{is_some, refl, ap, ◌∙◌, arith}
+use Rattle.first_pass_grammar.proofs.Common.{cases_Bool, Options, Item, ItemBody, Paragraph, TreeIndex, Forest, body_at, map_from, deeper, shallower}
+use Rattle.first_pass_grammar.proofs.Common.{with_end, body_of, blank_len, task_of, Rest, Place, place_at, offset, line_end, IsPlaceOf, line_len-some}
+use Rattle.first_pass_grammar.proofs.Common.{place_length, Kind, Blank, first_kind, IsKind, task_by, task_after, is_cell, is_row, is_inserted_after, own}
+use Rattle.first_pass_grammar.proofs.Common.{counted_nodes, GrowsBy, CowIndex}
 use Rattle.first_pass_grammar.specs.Counting.{last_cell}
 use Rattle.first_pass_grammar.proofs.Count.CountedNodes.{alike_first, own_first, own_ended, own_changed, own_one, own_added}
 use Rattle.first_pass_open.specs.OpenBlock.{with_child, begun_item}
 use Rattle.first_pass_open.proofs.PlaceLemmas.{option_on, task_shorter}
-use Rattle.first_pass_lists.specs.Closing.{popped_at, popped, empty_item_closed, list_finished, begun, blank_read, footnote_begun}
-use Rattle.first_pass_lists.specs.Closing.{current_body, current_moved, definitions_closed, definitions_left, with_current, title_begun}
-use Rattle.first_pass_lists.specs.Closing.{definitions_opened, definition_begun}
+use Rattle.first_pass_lists.specs.Closing.{popped_at, popped, empty_item_closed, list_finished, begun, blank_read, footnote_begun, current_body}
+use Rattle.first_pass_lists.specs.Closing.{current_moved, definitions_closed, definitions_left, title_begun, definitions_opened, definition_begun}
 use Rattle.first_pass_lists.specs.declared.state.PassState.{PassState}
-use Rattle.first_pass_order.proofs.AlikeNodes.{AreAlike, NoNodes, OneMore, titled, opened_both, current_like}
+use Rattle.first_pass_order.proofs.AlikeNodes.{AreAlike, NoNodes, OneMore, titled, opened_both, current_like, like_blank}
 use Rattle.first_pass_order.proofs.PropertyKept.{Property, HoldsAt, HoldsBefore, popped_at_keeps, popped_keeps, empty_item_closed_keeps, noted_keeps}
-use Rattle.first_pass_order.proofs.PropertyKept.{blank_keeps, list_finished_keeps, quote_keeps, item_keeps, note_keeps, definition_keeps}
+use Rattle.first_pass_order.proofs.PropertyKept.{list_finished_keeps, quote_keeps, item_keeps, note_keeps, definition_keeps}
 use Rattle.first_pass_open.specs.Between.{AddsBetween}
 use Rattle.first_pass_lists.proofs.NoEmptyItem.{item_opened}
 
@@ -73,30 +71,21 @@ pub empty_item_closed_count : (r : PassState) → count (empty_item_closed r) �
 empty_item_closed_count r = empty_item_closed_keeps count_kept 0 (count r) r (counted r)
 
 pub list_finished_count : (e : ℕ) (r : PassState) → count (list_finished e r) ≤ count r
-list_finished_count e r =
-    list_finished_keeps count_kept 0 e 0 (count r) r (counted_before r) (record { closes = λ list. tt; ends = tt; short = tt; later = tt })
+list_finished_count e r = list_finished_keeps count_kept 0 e 0 (count r) r (counted_before r) ((λ list. tt), tt, tt, tt)
 
 pub blank_count : (r : PassState) → count (blank_read r) ≤ count r
-blank_count r = blank_keeps count_kept 0 (count r) r (omega arith)
+blank_count r = count_kept.like 0 (count r) r.tree (blank_read r).tree (like_blank r) (omega arith)
 
 pub item_count : (start byte number columns : ℕ) (r : PassState) → count (item_opened start byte number columns r) ≤ count r + 2
 item_count start byte number columns r =
-    let two : count (item_opened start byte number columns r) ≤ suc (suc (count r)) =
-    item_keeps count_kept 0 start byte number columns (count r) r (counted_before r) (record { here = tt; goes = tt; there = tt; starts = tt }) tt tt in
-    omega arith
+    omega (arith, item_keeps count_kept 0 start byte number columns (count r) r (counted_before r) (tt, tt, tt, tt) tt tt)
 
 pub quote_count : (line start : ℕ) (body : ItemBody) (r : PassState) → count (begun start body (list_finished line r)) ≤ count r + 1
 quote_count line start body r =
-    let one : count (begun start body (list_finished line r)) ≤ suc (count r) =
-    quote_keeps count_kept 0 line 0 start (count r) body r (counted_before r) (record { closes = λ list. tt; ends = tt; short = tt; later = tt })
-    tt tt tt in
-    omega arith
+    omega (arith, quote_keeps count_kept 0 line 0 start (count r) body r (counted_before r) ((λ list. tt), tt, tt, tt) tt tt tt)
 
 pub note_count : (start : ℕ) (index : CowIndex) (r : PassState) → count (footnote_begun start index r) ≤ count r + 1
-note_count start index r =
-    let one : count (footnote_begun start index r) ≤ suc (count r) =
-    note_keeps count_kept 0 start (count r) index r (counted_before r) tt tt tt tt in
-    omega arith
+note_count start index r = omega (arith, note_keeps count_kept 0 start (count r) index r (counted_before r) tt tt tt tt)
 
 -- ending a definition list before a heading or a table adds none
 closed_count : (e : ℕ) (r : PassState) (o : Option TreeIndex) → count (current_moved (popped_at e r r.tree.spine) o) ≤ count r
@@ -116,14 +105,10 @@ end_count f e (Some c) = own_ended f.nodes c.0 e
 
 pub title_begun_count : (e : ℕ) (r : PassState) → current_body r.tree ≡ Some Paragraph → count (title_begun e r) ≡ count r
 unfolding title_begun
-title_begun_count e r is =
-    end_count (with_current r.tree MaybeDefinitionListTitle r.tree.current) e (slice_get r.tree.spine 0)
-    ∙ own_alike None r.tree.nodes _ (current_like r.tree r.tree.current is).nodes
+title_begun_count e r is = grind (arith, end_count, own_alike, current_like)
 
--- a definition adds one node; with a new list, whose title was a paragraph, two
 inserted_one : (t : Bool) (m : ℕ) → (if t then 0 else 1) + m ≤ m + 1
-inserted_one true m = omega arith
-inserted_one false m = omega arith
+inserted_one t m = grind arith
 
 own_wrapped : (cell : Option ℕ) (nodes : List (ℕ × Item)) (j d : ℕ) (x : Item) → is_cell x.body ≡ false → is_row x.body ≡ false
     → own cell (take j nodes ++ (d, x) ∷ map deeper (drop j nodes)) ≤ own cell nodes + 1
@@ -138,34 +123,24 @@ own_wrapped cell (n ∷ nodes) (suc j) d x cells rows = (let h = own_wrapped (la
 
 titled_count : (f : Forest Item) (c : TreeIndex) (y : Item) → body_at f.nodes c.0 ≡ Some Paragraph
     → counted_nodes (titled f c y).nodes ≤ counted_nodes f.nodes + 1
-titled_count f c y is =
-    let body : ItemBody = DefinitionList (list_flags true) in
-    let same = own_changed f.nodes c.0 Paragraph body is refl refl in
-    let one = own_wrapped None (modify f.nodes c.0 (λ x. record x { body = body })) (c.0 + 1) (length f.spine + 2)
-    (record { start = y.start; «end» = y.«end»; body = DefinitionListTitle }) refl refl in
-    omega arith
+titled_count f c y is = grind (arith, own_changed, own_wrapped)
 
+-- a definition adds one node; with a new list, whose title was a paragraph, two
 pub definition_count : (start columns : ℕ) (r : PassState) → count (definition_begun start columns r) ≤ count r + 2
 definition_count start columns r =
     let list : counted_nodes (definitions_opened r.tree r.tree.current).nodes ≤ suc (count r) =
     opened_both r.tree (λ g. counted_nodes g.nodes ≤ suc (count r)) (λ g l. (let same = own_alike None r.tree.nodes g.nodes l.nodes in omega arith))
     (λ c y current here body. (let one = titled_count r.tree c y (body_of r.tree c y here ∙ ap (λ z. Some z) body) in omega arith)) in
-    let two : count (definition_begun start columns r) ≤ suc (suc (count r)) =
-    definition_keeps count_kept 0 start columns (suc (count r)) r tt tt tt list in
-    omega arith
+    omega (arith, definition_keeps count_kept 0 start columns (suc (count r)) r tt tt tt list)
 
--- and a task list item marker one
+-- a task list item marker adds one
 pub child_count : (f : Forest Item) (marker : Option Item) → counted_nodes (with_child f marker).nodes ≤ counted_nodes f.nodes + 1
 child_count f None = omega arith
 child_count f (Some x) = own_one None f.nodes (length f.spine + 1, x)
 
 -- a block that is added between two different offsets
 pub block_count : (text : List ℕ) (from to : ℕ) (old new : Forest Item) → AddsBetween text from to old new → from < to → GrowsBy from to old.nodes new.nodes
-block_count text from to old new adds apart =
-    let node_bound = adds.fits.3 apart in
-    let tree = ap (λ (f : Forest Item). counted_nodes f.nodes) adds.tree_is in
-    let more = own_added old.nodes adds.items (length old.spine + 1) in
-    omega arith
+block_count text from to old new adds apart = grind (arith, own_added)
 
 -- a line that is not blank has a byte
 some_left : (bs : List ℕ) → is_some (blank_len bs) ≡ false → 0 < length bs
@@ -175,11 +150,7 @@ some_left (b ∷ bs) h = omega arith
 -- so has the line of a leaf block that is no blank line
 pub leaf_left : (options : Options) (r : Rest) (k : Kind) → IsKind options r k → (k ≡ Blank → ⊥) → 0 < length r.left
 unfolding first_kind
-leaf_left options r k h other =
-    elim (cases_Bool (is_blank_rest r)) [
-      | inl blank ↦ (let first : first_kind options r ≡ Some Blank = rw blank refl in absurd (other (subst (λ o. IsKindBy r o k) first h)))
-      | inr some ↦ some_left r.left some
-    ]
+leaf_left options r k h other = grind (arith, cases_Bool, some_left)
 
 pub left_before : (p : Place) → 0 < length p.rest.left → offset p < line_end p
 left_before p some = (let more = line_len-some p.rest.left some in omega arith)
@@ -200,7 +171,4 @@ mark_by line r (Some task) x h is = task_shorter r task (h task refl)
 
 pub mark_shorter : (options : Options) (line : ℕ) (r s : Rest) (marker : Option Item) (x : Item)
     → marker ≡ (task_after options line r).0 → s ≡ (task_after options line r).1 → marker ≡ Some x → length s.left < length r.left
-mark_shorter options line r s marker x is rest some =
-    let less = mark_by line r (if has options 16 then task_of r else None) x (λ task h. option_on (has options 16) (task_of r) task h) (sym is ∙ some) in
-    let same = ap (λ (q : Rest). length q.left) rest in
-    omega arith
+mark_shorter options line r s marker x is rest some = grind (arith, mark_by, option_on)

@@ -1,16 +1,15 @@
 -- Order at the start of a definition: its list is open, a new one in the place of the paragraph that becomes its
 -- title.
-use Rattle.std.proofs.Common.{◌≡◌, ℕ, zero, suc, ◌+◌, ◌<◌, ◌≤◌, true, false, List, [], ◌∷◌, ◌++◌, length, map, take, drop, Some, IfSome, IsCharBoundary}
-use Rattle.std.proofs.Common.{refl, sym, ap, subst, ◌∙◌, arith, length-append, append_assoc, true≢false, length-take-le, option_and_then, option_map}
-use Rattle.first_pass_grammar.proofs.Common.{not-true, map-append, Item, ItemBody, Paragraph, DefinitionList, DefinitionListTitle, DefinitionListDefinition}
-use Rattle.first_pass_grammar.proofs.Common.{TreeIndex, Forest, IsForest, IsOpenPath, IsLastAt, depths, modify, body_at, item_at, deeper, modify-at}
-use Rattle.first_pass_grammar.proofs.Common.{body-other, body_of, last-order, length-modify, list_flags, Ranged, extent_of, extents, is_task_marker}
-use Rattle.first_pass_grammar.proofs.Common.{is_text_block, Siblings, Empty, laid, laid_open, AreAt, FitsOpen, IsOrderedTo}
-use Rattle.first_pass_grammar.specs.Order.{is_list_item, is_definition_list}
-use Rattle.first_pass_grammar.specs.Order.{Node}
-use Rattle.first_pass_grammar.proofs.Order.Orders.{extents-append, laid_open-beside, laid_open-level, length-places}
+use Rattle.std.proofs.Common.{◌≡◌, ℕ, zero, suc, ◌+◌, ◌<◌, ◌≤◌, true, false, List, [], ◌∷◌, ◌++◌, length, map, take, drop, Some, IsCharBoundary, refl}
+use Rattle.std.proofs.Common.{sym, ap, subst, ◌∙◌, arith, length-append, append_assoc, append-nil, true≢false, length-take-le, option_and_then, option_map}
+use Rattle.first_pass_grammar.proofs.Common.{not-true, Item, ItemBody, Paragraph, DefinitionList, DefinitionListTitle, DefinitionListDefinition, TreeIndex}
+use Rattle.first_pass_grammar.proofs.Common.{Forest, IsForest, IsOpenPath, IsLastAt, modify, body_at, item_at, deeper, modify-at, body-other, body_of}
+use Rattle.first_pass_grammar.proofs.Common.{last-order, length-modify, list_flags, Ranged, extent_of, extents, is_task_marker, is_text_block, Siblings}
+use Rattle.first_pass_grammar.proofs.Common.{Empty, laid, laid_open, AreAt, FitsOpen, IsOrderedTo}
+use Rattle.first_pass_grammar.specs.Order.{is_list_item, is_definition_list, Node}
+use Rattle.first_pass_grammar.proofs.Order.Orders.{extents-append, laid_open-popped, laid_open-level, length-places}
 use Rattle.first_pass_open.proofs.PathLemmas.{AreIn}
-use Rattle.first_pass_order.proofs.RowSplits.{current_child, fits_open_titled, as_list, open_definitions, laid-deeper, extents-deeper, extents-split}
+use Rattle.first_pass_order.proofs.RowSplits.{current_child, fits_open_titled, as_list, open_definitions, laid-deeper, extents-mapped, extents-split}
 use Rattle.first_pass_lists.specs.Closing.{with_tree, top_body, current_body, is_list, precedes_definition, may_begin_definition, list_kept}
 use Rattle.first_pass_lists.specs.Closing.{definitions_opened, definition_begun, is_definition_list as is_definitions}
 use Rattle.first_pass_lists.specs.declared.state.PassState.{PassState}
@@ -28,7 +27,7 @@ wrapped_extents : (nodes : List (ℕ × Item)) (front : List (ℕ × Ranged)) (n
 wrapped_extents nodes front n more j t is at =
     let size : j ≡ length (front ++ n ∷ []) = (let l = length-append front (n ∷ []) in omega arith) in
     let split = extents-split nodes (front ++ n ∷ []) more j (is ∙ sym (append_assoc front (n ∷ []) more)) size in
-    let rest = extents-deeper (drop j nodes) in
+    let rest : extents (map deeper (drop j nodes)) ≡ map deeper (extents (drop j nodes)) = extents-mapped (λ d. d + 1) (drop j nodes) in
     cc (extents-append (take j nodes) (t ∷ map deeper (drop j nodes)), append_assoc front (n ∷ []) ((t.0, extent_of t.1) ∷ map deeper more))
 
 -- open nodes are before the current one
@@ -38,9 +37,7 @@ open_before ds (ix ∷ spine) c d path last deep =
     (last-order ds (length spine + 1) d ix.0 c path.0 last (omega arith), open_before ds spine c d path.1 last (omega arith))
 
 pub current_past : (f : Forest Item) (c : TreeIndex) → IsForest f → f.current ≡ Some c → AreIn c.0 f.spine
-current_past f c forest current =
-    open_before (depths f.nodes) f.spine c.0 (length f.spine + 1) forest.opened
-    (subst (λ z. IfSome z (λ c. IsLastAt (depths f.nodes) (length f.spine + 1) c.0)) current forest.at_current) (omega arith)
+current_past f c forest current = grind (arith, open_before)
 
 -- the innermost open node is no definition list, by its extent
 same_list : (b : ItemBody) → is_definitions (Some b) ≡ is_definition_list b
@@ -69,10 +66,7 @@ module _ (f : Forest Item) (c : TreeIndex) (y : Item) (here : item_at f c ≡ So
   listed = modify f.nodes c.0 (λ x. record x { body = DefinitionList (list_flags true) })
 
   listed_within : c.0 + 1 ≤ length listed
-  listed_within =
-      let w = body_inside f.nodes c.0 y.body (body_of f c y here) in
-      let n = length-modify f.nodes c.0 (λ x. record x { body = DefinitionList (list_flags true) }) in
-      omega arith
+  listed_within = grind (arith, body_inside, body_of, length-modify)
 
   titled_within : c.0 < length (titled f c y).nodes
   titled_within =
@@ -110,17 +104,16 @@ module _ (text : List ℕ) (f : Forest Item) (a : ℕ) (c : TreeIndex) (y : Item
       let l = current_child text f a c y forest current here h in
       let front : List (ℕ × Ranged) = laid_open h.root h.levels l.before in
       let kids : List (ℕ × Ranged) = laid (suc d) l.kids in
-      let split : extents f.nodes ≡ front ++ (d, x) ∷ (kids ++ []) =
-      h.nodes ∙ ap (laid_open h.root h.levels) l.row_is ∙ laid_open-beside h.root h.levels l.before (Node x l.kids Empty) in
+      let split : extents f.nodes ≡ front ++ (d, x) ∷ kids =
+      h.nodes ∙ ap (laid_open h.root h.levels) l.row_is ∙ laid_open-popped h.root x h.levels l.before l.kids in
       let nodes : List (ℕ × Item) = listed f c y here in
       let t : ℕ × Item = (length f.spine + 2, record { start = y.start; «end» = y.«end»; body = DefinitionListTitle }) in
-      let flagged : extents nodes ≡ front ++ (d, as_list x) ∷ (kids ++ []) =
+      let flagged : extents nodes ≡ front ++ (d, as_list x) ∷ kids =
       extents-changed f.nodes c.0 (λ x. record x { body = DefinitionList (list_flags true) }) as_list (λ z. refl)
-      ∙ ap (λ (z : List (ℕ × Ranged)). modify z c.0 as_list) split ∙ modify-at front (kids ++ []) (d, x) c.0 as_list l.place_is in
-      let one : c.0 + 1 ≡ suc (length front) = (let p = l.place_is in omega arith) in
-      let all = wrapped_extents nodes front (d, as_list x) (kids ++ []) (c.0 + 1) t flagged one in
+      ∙ ap (λ (z : List (ℕ × Ranged)). modify z c.0 as_list) split ∙ modify-at front kids (d, x) c.0 as_list l.place_is in
+      let all = wrapped_extents nodes front (d, as_list x) kids (c.0 + 1) t flagged (omega (arith, l.place_is)) in
       let title = list_extent y Paragraph DefinitionListTitle body refl in
-      let below = map-append deeper kids [] in
+      let below = append-nil (laid (suc (suc d)) l.kids) in
       let level = laid_open-level h.root (l.before, as_list x) h.levels (Node x l.kids Empty) in
       record {
         root = h.root;
@@ -128,7 +121,8 @@ module _ (text : List ℕ) (f : Forest Item) (a : ℕ) (c : TreeIndex) (y : Item
         row = Node x l.kids Empty;
         nodes = cc (laid-deeper (suc d) l.kids);
         places = (l.place_is, h.places);
-        fits = fits_open_titled text a h.levels l.before x l.kids (ap is_task_marker body) (ap is_list_item body) (ap is_text_block body)
+        fits = fits_open_titled text a h.levels l.before x l.kids
+            (record { plain = ap is_task_marker body; other = ap is_list_item body; block = ap is_text_block body })
             (no_open_list f.nodes h.root h.levels h.row f.spine h.nodes h.places outside) (subst (FitsOpen text a h.levels) l.row_is h.fits);
         within = h.within;
         whole = h.whole;

@@ -1,23 +1,21 @@
 -- Order when definition lists are opened and closed: a paragraph becomes a title, a possible title is kept, and one
 -- that is no title is moved out of its list.
-use Rattle.std.proofs.Common.{◌≡◌, ℕ, suc, ◌+◌, ◌<◌, ◌≤◌, not, is_some, Bool, true, false, if◌then◌else◌, List, [], ◌∷◌, ◌++◌, length, take, drop}
-use Rattle.std.proofs.Common.{slice_get, Option, Some, None, IsCharBoundary, refl, sym, ap, subst, ◌∙◌, arith, length-append, IsSomeAnd, option_and_then}
-use Rattle.std.proofs.Common.{option_map}
-use Rattle.first_pass_grammar.proofs.Common.{and_parts, take-append_seam, drop-append_seam, option_map_or, Item, ItemBody, Paragraph, DefinitionList}
-use Rattle.first_pass_grammar.proofs.Common.{MaybeDefinitionListTitle, TreeIndex, Forest, IsForest, modify, with_body_at, with_end_at, body_at, item_at}
-use Rattle.first_pass_grammar.proofs.Common.{at_depth, added, with_end, body-kept, body-changed, Ranged, extent_of, extents, is_task_marker, laid}
-use Rattle.first_pass_grammar.proofs.Common.{Elsewhere, InItem, Fits, FitsBetween, laid_open, AreAt, open_within, FitsOpen, item_on_top, within_top}
-use Rattle.first_pass_grammar.proofs.Common.{IsOrderedTo, length-modify}
-use Rattle.first_pass_grammar.proofs.Order.Orders.{ended_at, extents-append, length-extents, extents-at_depth, laid-at_depth, laid_open-level}
-use Rattle.first_pass_grammar.proofs.Order.Orders.{below_ended, extents-ended, between-any}
-use Rattle.first_pass_order.proofs.RowSplits.{current_child, fits_open_ends, extents-split}
+use Rattle.std.proofs.Common.{◌≡◌, ℕ, suc, ◌+◌, ◌<◌, ◌≤◌, not, is_some, Bool, true, false, if◌then◌else◌, List, [], ◌∷◌, ◌++◌, length, take, drop, slice_get}
+use Rattle.std.proofs.Common.{Option, Some, None, IsCharBoundary, refl, sym, ap, subst, ◌∙◌, arith, length-append, IsSomeAnd, option_and_then, option_map}
+use Rattle.first_pass_grammar.proofs.Common.{and_parts, take-append_seam, drop-append_seam, option_map_or, Item, Paragraph, MaybeDefinitionListTitle}
+use Rattle.first_pass_grammar.proofs.Common.{TreeIndex, Forest, IsForest, modify, with_body_at, with_end_at, body_at, item_at, at_depth, added, with_end}
+use Rattle.first_pass_grammar.proofs.Common.{body-kept, body-changed, Ranged, extent_of, extents, is_task_marker, laid, Elsewhere, InItem, FitsBetween}
+use Rattle.first_pass_grammar.proofs.Common.{laid_open, AreAt, open_within, FitsOpen, within_top, IsOrderedTo, length-modify}
+use Rattle.first_pass_grammar.proofs.Order.Orders.{ended_at, extents-append, length-extents, extents-at_depth, laid-at_depth, laid_open-level, below_ended}
+use Rattle.first_pass_grammar.proofs.Order.Orders.{extents-ended, between-any}
+use Rattle.first_pass_order.proofs.RowSplits.{current_child, open_last_fits, extents-split}
 use Rattle.first_pass_open.specs.Between.{AddsBetween}
 use Rattle.first_pass_lists.specs.Closing.{with_tree, gap_marked, top_body, current_body, top_end, definitions_closed, possible_title, definitions_left}
 use Rattle.first_pass_lists.specs.Closing.{title_begun, is_after_definition, is_definition_list as is_definitions}
 use Rattle.first_pass_lists.specs.declared.state.PassState.{PassState}
-use Rattle.first_pass_order.specs.Ordered.{top_of, AreNested, EndsBeforeLast, EndsBeforeTitle, CanClose, IsReadTo}
-use Rattle.first_pass_order.proofs.Nests.{classed_ended, nested_classed, like_nested}
-use Rattle.first_pass_order.proofs.Nests.{title_there, definitions_closed_outside, noted_outside, outside_closes, nested_front, top_front}
+use Rattle.first_pass_order.specs.Ordered.{top_of, AreNested, EndsBeforeTitle, CanClose, IsReadTo}
+use Rattle.first_pass_order.proofs.Nests.{classed_ended, nested_classed, like_nested, definitions_are, title_there, definitions_closed_outside, noted_outside}
+use Rattle.first_pass_order.proofs.Nests.{outside_closes, nested_front, top_front}
 use Rattle.first_pass_order.proofs.OrderLemmas.{ordered_with, ordered_same, ordered_added, ordered_none, inner}
 use Rattle.first_pass_order.proofs.PopOrder.{noted_empty}
 use Rattle.first_pass_order.proofs.AlikeNodes.{alike_ended, LooksAlike, like_itself, like_body}
@@ -40,13 +38,7 @@ ordered_reended text f a e ix rest spine h =
       nodes = extents-ended f.nodes (laid_open l.root l.levels l.level.0) (suc (length l.levels), l.level.1) (laid (suc (suc (length l.levels))) l.row) ix.0 e
           (l.nodes ∙ laid_open-level l.root l.level l.levels l.row) l.place ∙ sym (laid_open-level l.root (l.level.0, x) l.levels l.row);
       places = subst (AreAt l.root ((l.level.0, x) ∷ l.levels)) (sym spine) (l.place, l.outer);
-      fits = (
-        before,
-        low,
-        subst (λ w. Fits text w l.level.1.start a l.row) (sym (below_ended (open_within l.levels) before l.level.1 e)) fits,
-        starts,
-        outer,
-      );
+      fits = (before, low, rw (below_ended (open_within l.levels) before l.level.1 e) fits, starts, outer);
       within = h.within;
       whole = l.whole;
     }
@@ -76,9 +68,7 @@ module _ (text : List ℕ) (old : Forest Item) (b : AddedAfterDefinition text ol
   ended = modify old.nodes b.list.0 (λ x. record x { «end» = b.«end» })
 
   block_extents : extents (at_depth (length old.spine + 1) b.items) ≡ laid (suc (length old.spine)) b.fits.0
-  block_extents =
-      let deep : length old.spine + 1 + 0 ≡ suc (length old.spine) = omega arith in
-      cc (extents-at_depth (length old.spine + 1) b.items, b.fits.1, laid-at_depth (length old.spine + 1) 0 b.fits.0)
+  block_extents = grind (arith, extents-at_depth, laid-at_depth)
 
   -- the closed list, with the block after it
   block_left : (q : PassState) → q.tree ≡ added old b.items → IsOrderedTo text (definitions_closed b.«end» q).tree b.next
@@ -86,16 +76,13 @@ module _ (text : List ℕ) (old : Forest Item) (b : AddedAfterDefinition text ol
       let f : Forest Item = added old b.items in
       let block : List (ℕ × Item) = at_depth (length old.spine + 1) b.items in
       let sum = length-append old.nodes block in
-      let front : take (length old.nodes) f.nodes ≡ old.nodes = take-append_seam old.nodes block in
       let left : IsLeft f (definitions_closed b.«end» q).tree b.«end» place =
-      is_left f q b.«end» place b.list b.outer (subst (λ g. LooksAlike f g) (sym is) (like_itself f)) b.spine refl (omega arith)
-      (λ h. subst (λ (g : Forest Item). IsForest g) (sym is) h) in
+      is_left f q b.«end» place b.list b.outer (rw is (like_itself f)) b.spine refl (omega arith) (λ h. rw is h) in
       left_ordered text f (definitions_closed b.«end» q).tree b.next b.«end» place left (record {
-        before = ordered_same text old (record f { nodes = take (length old.nodes) f.nodes }) b.«end» (ap (λ (z : List (ℕ × Item)). extents z) front) refl
-            b.ordered;
+        before = ordered_same text old _ b.«end» (rw (take-append_seam old.nodes block) refl) refl b.ordered;
         ends = b.boundary;
         row = b.fits.0;
-        last = ap (λ (z : List (ℕ × Item)). extents z) (drop-append_seam old.nodes block) ∙ block_extents;
+        last = rw (drop-append_seam old.nodes block) block_extents;
         fits = b.fits.2;
       }) b.within
 
@@ -123,26 +110,22 @@ module _ (text : List ℕ) (old : Forest Item) (b : AddedAfterDefinition text ol
 
     kept_end : top_end kept_tree ≡ b.«end»
     kept_end =
-        let m : List (ℕ × Item) = modify (added old b.items).nodes (length old.nodes) (λ x. record x { body = MaybeDefinitionListTitle }) in
-        let n = length-modify (added old b.items).nodes (length old.nodes) (λ x. record x { body = MaybeDefinitionListTitle }) in
+        let to : Item → Item = λ x. record x { body = MaybeDefinitionListTitle } in
+        let n = length-modify (added old b.items).nodes (length old.nodes) to in
         let k = length-append old.nodes (at_depth (length old.spine + 1) b.items) in
-        let within_m : b.list.0 < length m = omega (arith, b.low) in
         ap (λ (s : List TreeIndex). option_map_or (λ x. x.«end») (option_and_then (λ ix. item_at kept_tree ix) (slice_get s 0)) 0) b.spine
-        ∙ end_there m b.list.0 b.«end» within_m
+        ∙ end_there (modify (added old b.items).nodes (length old.nodes) to) b.list.0 b.«end» (omega (arith, b.low))
 
     kept_title : EndsBeforeTitle text kept_tree b.next
     kept_title title is =
-        let before : Forest Item = record kept_tree { nodes = take (length old.nodes) kept_tree.nodes } in
         let here : title ≡ place = (let current = (title_there kept_tree title is).current in cc) in
-        subst (λ (z : TreeIndex). EndsBeforeLast text kept_tree b.next z.0) (sym here)
-        (record {
-          before = subst (IsOrderedTo text before) (sym kept_end)
-              (ordered_same text (with_end_at old b.list b.«end») before b.«end» kept_split.0 refl
+        rw here (record {
+          before = rw kept_end (ordered_same text (with_end_at old b.list b.«end») _ b.«end» kept_split.0 refl
               (ordered_reended text old b.«end» b.«end» b.list b.outer b.spine b.ordered));
-          ends = subst (IsCharBoundary text) (sym kept_end) b.boundary;
+          ends = rw kept_end b.boundary;
           row = b.fits.0;
           last = kept_split.1;
-          fits = subst (λ k. Fits text Elsewhere k b.next b.fits.0) (sym kept_end) b.fits.2;
+          fits = rw kept_end b.fits.2;
         })
 
     kept_ordered : IsOrderedTo text kept_tree b.next
@@ -188,14 +171,7 @@ after_by : (f : Forest Item) (s : List TreeIndex) (o : Option TreeIndex) → f.s
     → IsSomeAnd (option_and_then (λ ix. body_at f.nodes ix.0) o) (λ b. is_task_marker b ≡ false) → AfterDefinition f
 after_by f [] o spine current list last = cc
 after_by f (ix ∷ rest) None spine current list last = absurd last
-after_by f (ix ∷ rest) (Some c) spine current list last =
-    let y = last_item (slice_get f.nodes c.0) last in
-    record { place = ix; outer = rest; last = c; definition = y.0; spine = spine; list = list; current = current; here = y.1; plain = y.2 }
-
-no_item_top : (b : Option ItemBody) → is_definitions b ≡ true → item_on_top b ≡ false
-no_item_top None h = cc
-no_item_top (Some (DefinitionList flags)) h = refl
-no_item_top (Some b) h = cc
+after_by f (ix ∷ rest) (Some c) spine current list last = grind (arith, last_item)
 
 -- A paragraph, heading or table is read right after a definition. The tree before it is in order up to an offset, and
 -- the block starts at another.
@@ -225,10 +201,10 @@ module _ (text : List ℕ) (r : PassState) (read : Forest Item) (next : ℕ) (h 
       let d : AfterDefinition r.tree = the_definition in
       let o = h.ordered in
       let l = current_child text r.tree h.at d.last d.definition h.forest d.current d.here o in
-      let e = fits_open_ends text h.at o.levels l.before (extent_of d.definition) l.kids d.plain (subst (FitsOpen text h.at o.levels) l.row_is o.fits) in
-      let low : d.definition.«end» ≤ h.at = e.1 in
-      let fits = subst (FitsOpen text d.definition.«end» o.levels) (sym l.row_is) e.0 in
-      (ordered_with text r.tree r.tree h.at d.definition.«end» o o.row o.nodes refl fits (omega (arith, o.within)), low, e.2)
+      let e = open_last_fits text h.at o.levels l.before (extent_of d.definition) l.kids d.plain (subst (FitsOpen text h.at o.levels) l.row_is o.fits) in
+      let low : d.definition.«end» ≤ h.at = e.0 in
+      let fits = subst (FitsOpen text d.definition.«end» o.levels) (sym l.row_is) (e.2 d.definition.«end» (omega arith) e.1) in
+      (ordered_with text r.tree r.tree h.at d.definition.«end» o o.row o.nodes refl fits (omega (arith, o.within)), low, e.1)
 
   the_block : AddsBetween text the_definition.definition.«end» next r.tree read
   the_block = h.adds the_definition.definition.«end» (let a = ordered_before.1 in omega (arith, h.later))
@@ -245,7 +221,7 @@ module _ (text : List ℕ) (r : PassState) (read : Forest Item) (next : ℕ) (h 
     ordered = ordered_before.0;
     boundary = ordered_before.2;
     fits = subst (λ w. FitsBetween text w the_definition.definition.«end» next the_block.items)
-        (ap (λ (t : Bool). if t then InItem else Elsewhere) (no_item_top (top_body r.tree) list_top)) the_block.fits;
+        (ap (λ (t : Bool). if t then InItem else Elsewhere) (definitions_are (top_body r.tree) list_top).3) the_block.fits;
     within = h.within;
   }
 

@@ -3,7 +3,7 @@ use Rattle.std.proofs.Common.{◌≡◌, ℕ, zero, suc, ◌+◌, ◌<◌, true,
 use Rattle.std.proofs.Common.{sym, ap, subst, ◌∙◌, arith, IsSomeAnd}
 use Rattle.first_pass_grammar.proofs.Common.{option_map_or, Item, ItemBody, Paragraph, DefinitionList, DefinitionListTitle, MaybeDefinitionListTitle}
 use Rattle.first_pass_grammar.proofs.Common.{TreeIndex, Forest, IsForest, modify, with_end, body_at, item_at, deeper, body-kept, body-changed, body_of}
-use Rattle.first_pass_grammar.proofs.Common.{list_flags, Names, Mark, shown, marks, ShowsNothing, SilentFrom, may_be_title, HasWholeTables}
+use Rattle.first_pass_grammar.proofs.Common.{list_flags, Names, marks, ShowsNothing, SilentFrom, may_be_title, HasWholeTables}
 use Rattle.first_pass_grammar.specs.WholeTables.{HaveNoRows, IsSilentLast}
 use Rattle.first_pass_grammar.proofs.WholeTables.WholeForests.{whole_same}
 use Rattle.first_pass_completion.proofs.SilentNodes.{marks_modified, none_shown, from_at, from_modified, each_from}
@@ -29,8 +29,7 @@ marks_wrapped names (n ∷ nodes) c zero t is own h = absurd (omega arith)
 marks_wrapped names (n ∷ nodes) zero (suc zero) t is own h =
     none_shown names (n ∷ t ∷ map deeper nodes) (h.0, (own, each_from deeper (λ n k. k) zero nodes h.1)) ∙ sym (none_shown names (n ∷ nodes) h)
 marks_wrapped names (n ∷ nodes) zero (suc (suc j)) t is own h = absurd (omega arith)
-marks_wrapped names (n ∷ nodes) (suc c) (suc j) t is own h =
-    ap (λ (z : List Mark). shown names n.0 n.1.start n.1.«end» n.1.body ++ z) (marks_wrapped names nodes c j t (omega arith) own h)
+marks_wrapped names (n ∷ nodes) (suc c) (suc j) t is own h = grind (arith, marks_wrapped names nodes c j t (omega arith) own h)
 
 module _ (names : Names) where
   -- a paragraph becomes the title of a list
@@ -48,8 +47,7 @@ module _ (names : Names) where
             (marks_wrapped names (modify f.nodes c.0 to) c.0 (c.0 + 1) t (omega arith) (λ names depth start end. refl) still
             ∙ marks_modified names f.nodes c.0 to (λ x k names depth start end. refl) (from_at f.nodes c.0 silent)) h.whole;
         none_open = (
-          subst (λ o. IsSomeAnd o (λ b. may_not_open b ≡ false))
-              (sym (titled_at f c y here c.0 (omega arith) ∙ body-changed f.nodes c.0 to Paragraph list is (λ x e. refl))) refl,
+          rw (titled_at f c y here c.0 (omega arith), body-changed f.nodes c.0 to Paragraph list is (λ x e. refl)) refl,
           none_before f.nodes (titled f c y).nodes c.0 f.spine (titled_front f c y here) (current_past f c forest current) h.none_open,
         );
         last = tt;
@@ -65,9 +63,7 @@ module _ (names : Names) where
   last_ended : (nodes : List (ℕ × Item)) (i e : ℕ) (o : Option TreeIndex) → IsSilentLast nodes o
       → IsSilentLast (modify nodes i (λ x. record x { «end» = e })) o
   last_ended nodes i e None h = tt
-  last_ended nodes i e (Some c) h =
-      λ may. from_modified nodes i c.0 (λ x. record x { «end» = e }) (λ x k. k)
-      (h (sym (ap (λ o. option_map_or may_be_title o false) (body-kept nodes i c.0 (λ x. record x { «end» = e }) (λ x. refl))) ∙ may))
+  last_ended nodes i e (Some c) h = grind (arith, from_modified, body-kept)
 
   end_whole : (f : Forest Item) (e : ℕ) (s : List TreeIndex) → f.spine ≡ s → HasWholeTables names f → HasWholeTables names (with_end f e (slice_get s 0))
   end_whole f e [] spine h = h

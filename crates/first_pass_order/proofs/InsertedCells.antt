@@ -1,9 +1,9 @@
 -- Whole tables have at most as many nodes as counted nodes and inserted cells together.
-use Rattle.std.proofs.Common.{◌≡◌, ◌⊎◌, inl, inr, ℕ, suc, ◌+◌, ◌<◌, ◌≤◌, ◌==◌, Bool, true, false, if◌then◌else◌, List, [], ◌∷◌, ◌++◌, length, map, Option}
-use Rattle.std.proofs.Common.{Some, None, refl, sym, subst, arith, append_assoc, eq-eqb, ne_eqb}
+use Rattle.std.proofs.Common.{◌≡◌, ◌⊎◌, ℕ, suc, ◌+◌, ◌<◌, ◌≤◌, ◌==◌, Bool, true, false, if◌then◌else◌, List, [], ◌∷◌, ◌++◌, length, map, Option, Some, None}
+use Rattle.std.proofs.Common.{refl, sym, subst, arith, append_assoc}
 use Rattle.first_pass_grammar.proofs.Common.{Item, ItemBody, Table, TableHead, TableRow, TableCell, Names, is_cell, is_inserted_after, own, counted_nodes}
 use Rattle.first_pass_grammar.proofs.Common.{Mark, ATable, ARow, ACell, shown, marks, RowCells, row_marks, TableRows, table_marks, HaveCells, AreFull}
-use Rattle.first_pass_grammar.proofs.Common.{AreWholeTables}
+use Rattle.first_pass_grammar.proofs.Common.{AreWholeTables, nat_tests}
 use Rattle.first_pass_grammar.specs.Counting.{inserted_in_row, inserted_cells}
 use Rattle.first_pass_grammar.specs.WholeTables.{StartApart}
 
@@ -14,9 +14,8 @@ cell_after cell (ARow depth «end») = None
 cell_after cell (ACell depth start) = Some start
 
 abbrev end_after : Option ℕ → Mark → Option ℕ
-end_after «end» (ATable depth columns) = «end»
 end_after «end» (ARow depth e) = Some e
-end_after «end» (ACell depth start) = «end»
+end_after «end» m = «end»
 
 -- an offset is this one
 abbrev is_at : Option ℕ → ℕ → Bool
@@ -25,18 +24,19 @@ is_at (Some at) start = start == at
 
 -- a cell starts there
 abbrev starts_at : Option ℕ → Mark → Bool
-starts_at at (ATable depth columns) = false
-starts_at at (ARow depth «end») = false
 starts_at at (ACell depth start) = is_at at start
+starts_at at m = false
 
--- the number of cells that start with the one before them in their row, and the number of cells at their row's end
+-- the number of cells that start at an offset, which each mark may change
 unfoldable matched : (Option ℕ → Mark → Option ℕ) → Option ℕ → List Mark → ℕ
 matched after at [] = 0
 matched after at (m ∷ ms) = (if starts_at at m then 1 else 0) + matched after (after at m) ms
 
+-- the number of cells that start with the one before them in their row
 abbrev repeated : Option ℕ → List Mark → ℕ
 repeated cell ms = matched cell_after cell ms
 
+-- the number of cells at their row's end
 abbrev at_end : Option ℕ → List Mark → ℕ
 at_end «end» ms = matched end_after «end» ms
 
@@ -46,8 +46,7 @@ inserted_is None start e = refl
 inserted_is (Some at) start e = refl
 
 one_or_other : (t : Bool) (m k n : ℕ) → m + k ≡ n → (if t then 0 else 1) + m + ((if t then 1 else 0) + k) ≡ suc n
-one_or_other true m k n h = omega arith
-one_or_other false m k n h = omega arith
+one_or_other t m k n h = grind arith
 
 plain_past : (cell : Option ℕ) (x : Item) → is_cell x.body ≡ false → is_inserted_after cell x ≡ false
 plain_past None x h = refl
@@ -91,28 +90,22 @@ abbrev FewAre : List Mark → Type 0
 FewAre ms = (cell «end» : Option ℕ) → repeated cell ms ≤ at_end «end» ms
 
 one_more : (t u : Bool) (m n : ℕ) → (t ≡ true → u ≡ true) → m ≤ n → (if t then 1 else 0) + m ≤ (if u then 1 else 0) + n
-one_more true true m n both h = omega arith
-one_more true false m n both h = absurd (let is = both refl in cc)
-one_more false true m n both h = omega arith
-one_more false false m n both h = omega arith
+one_more t u m n both h = grind arith
 
 again_at_end : (start next e : ℕ) → (start < next) ⊎ (next ≡ e) → (next == start) ≡ true → (next == e) ≡ true
-again_at_end start next e (inl later) same = absurd (let other = ne_eqb next start (λ is. omega arith) in cc)
-again_at_end start next e (inr there) same = eq-eqb next e there
+again_at_end start next e apart same = grind (arith, nat_tests)
 
 cells_after : (depth e start : ℕ) (starts : List ℕ) (ms : List Mark) → StartApart e (start ∷ starts) → FewAre ms
     → repeated (Some start) (map (ACell depth) starts ++ ms) ≤ at_end (Some e) (map (ACell depth) starts ++ ms)
 unfolding matched StartApart
 cells_after depth e start [] ms apart node_bound = node_bound (Some start) (Some e)
-cells_after depth e start (next ∷ starts) ms apart node_bound =
-    one_more (next == start) (next == e) _ _ (again_at_end start next e apart.0) (cells_after depth e next starts ms apart.1 node_bound)
+cells_after depth e start (next ∷ starts) ms apart node_bound = grind (arith, one_more, again_at_end, cells_after depth e next starts ms apart.1 node_bound)
 
 first_cells : (depth e : ℕ) (starts : List ℕ) (ms : List Mark) → StartApart e starts → FewAre ms
     → repeated None (map (ACell depth) starts ++ ms) ≤ at_end (Some e) (map (ACell depth) starts ++ ms)
 unfolding matched StartApart
 first_cells depth e [] ms apart node_bound = node_bound None (Some e)
-first_cells depth e (start ∷ starts) ms apart node_bound =
-    one_more false (start == e) _ _ (λ h. absurd (cc)) (cells_after depth e start starts ms apart node_bound)
+first_cells depth e (start ∷ starts) ms apart node_bound = grind (arith, one_more, cells_after)
 
 rows_few : (columns depth : ℕ) (rows : List RowCells) (ms : List Mark) → HaveCells columns rows → FewAre ms → FewAre (row_marks depth rows ++ ms)
 unfolding matched row_marks HaveCells
@@ -126,8 +119,7 @@ rows_few columns depth (row ∷ rows) ms have node_bound =
 tables_few : (tables : List TableRows) → AreFull tables → FewAre (table_marks tables)
 unfolding matched table_marks AreFull
 tables_few [] full = λ cell end. omega arith
-tables_few (table ∷ tables) full =
-    λ cell end. (let rows = rows_few table.columns (suc table.depth) table.rows (table_marks tables) full.0 (tables_few tables full.2) cell end in omega arith)
+tables_few (table ∷ tables) full = grind (arith, rows_few, tables_few tables full.2)
 
 pub all_nodes : (names : Names) (nodes : List (ℕ × Item)) → AreWholeTables names nodes → length nodes ≤ counted_nodes nodes + inserted_cells nodes
 unfolding AreWholeTables

@@ -3,20 +3,15 @@ use Rattle.std.proofs.Common.{◌≡◌, ℕ, zero, suc, ◌<◌, ◌≤◌, fal
 use Rattle.std.proofs.Common.{◌∙◌, arith, take-append-drop, length-take-le, option_map}
 use Rattle.first_pass_grammar.proofs.Common.{slice_get_within, option_map_or, Item, TreeIndex, Forest, modify, Ranged, extents, Siblings, laid, Elsewhere}
 use Rattle.first_pass_grammar.proofs.Common.{Fits, within_top, IsOrderedTo, length-modify}
-use Rattle.first_pass_grammar.proofs.Order.Orders.{ended_at, extents-append, length-extents, fits-any, fits-later}
+use Rattle.first_pass_grammar.proofs.Order.Orders.{extents-append, length-extents, fits-any, fits-later}
 use Rattle.first_pass_order.proofs.RowSplits.{laid-shallower, extents-moved}
 use Rattle.first_pass_open.specs.OpenBlock.{closed_by}
 use Rattle.first_pass_lists.specs.Closing.{state_with, top_end}
 use Rattle.first_pass_lists.specs.declared.state.PassState.{PassState}
-use Rattle.first_pass_order.specs.Ordered.{EndsBeforeTitle, reached, IsOrderedAt}
-use Rattle.first_pass_order.proofs.OrderLemmas.{ordered_more, ordered_closed, ordered_same, ordered_later, ordered_begun, extents-changed}
-use Rattle.first_pass_order.proofs.OrderLemmas.{top_there, inner}
+use Rattle.first_pass_order.specs.Ordered.{EndsBeforeTitle, IsOrderedAt}
+use Rattle.first_pass_order.proofs.OrderLemmas.{ordered_more, ordered_closed, ordered_same, ordered_later, ordered_begun, top_there, inner}
 use Rattle.first_pass_order.proofs.AlikeNodes.{AreAlike, NoNodes, OneMore}
 use Rattle.first_pass_order.proofs.PropertyKept.{IsLeft, Property, MayLeave, HoldsAt, HoldsBefore}
-
--- an end at a place, in the extents
-pub extents-end : (nodes : List (ℕ × Item)) (k e : ℕ) → extents (modify nodes k (λ x. record x { «end» = e })) ≡ modify (extents nodes) k (λ x. ended_at x e)
-extents-end nodes k e = extents-changed nodes k (λ x. record x { «end» = e }) (λ x. ended_at x e) (λ x. refl)
 
 pub modify-front : {T : Type 0} (nodes more : List (ℕ × T)) (k : ℕ) (g : T → T) → k < length nodes → modify (nodes ++ more) k g ≡ modify nodes k g ++ more
 modify-front [] more k g low = absurd (omega arith)
@@ -39,10 +34,7 @@ open_there text f a ix rest spine h =
 
 pub extents_alike : (old new : List (ℕ × Item)) → AreAlike old new → extents new ≡ extents old
 extents_alike old new NoNodes = refl
-extents_alike old new (OneMore n m xs ys a h) =
-    let rest = extents_alike xs ys h in
-    let same = a.body.0 in
-    cc (a.depth, a.start, a.«end», ap (λ t. t.2.0) same, ap (λ t. t.2.1) same, ap (λ t. t.2.2) same, ap (λ t. t.2.3) same)
+extents_alike old new (OneMore n m xs ys a h) = grind (arith, extents_alike xs ys h)
 
 -- The node at a place is the last child of the innermost open node. The nodes before it are in order up to an offset,
 -- and the child and its descendants lie between that and another offset.
@@ -59,22 +51,19 @@ pub left_ordered : (text : List ℕ) (f g : Forest Item) (at e : ℕ) (c : TreeI
 left_ordered text f g at e c l h within =
     let ix : TreeIndex = l.list in
     let rest : List TreeIndex = l.rest in
+    let to : Item → Item = λ x. record x { «end» = e } in
     let old : Forest Item = record f { nodes = take c.0 f.nodes } in
-    let low : c.0 ≤ length f.nodes = l.within in
-    let place : c.0 ≡ length old.nodes = sym (length-take-le c.0 f.nodes low) in
-    let open_low : ix.0 < length old.nodes = open_there text old e ix rest l.spine h.before in
-    let extents_low : ix.0 < length (extents old.nodes) = (let n = length-extents old.nodes in omega arith) in
-    let deep : suc (length f.spine) ≡ suc (suc (length rest)) = ap (λ (s : List TreeIndex). suc (length s)) l.spine in
-    let more : List (ℕ × Ranged) = laid (suc (length f.spine)) h.row in
+    let more : List (ℕ × Item) = drop c.0 f.nodes in
     let shut : Forest Item = closed_by old e (ix ∷ rest) in
     let front : List (ℕ × Ranged) = extents shut.nodes in
-    let at_front : c.0 ≡ length front = place ∙ sym (length-extents shut.nodes ∙ length-modify old.nodes ix.0 (λ x. record x { «end» = e })) in
-    let split : extents f.nodes ≡ extents old.nodes ++ more =
-    cc (take-append-drop c.0 f.nodes, extents-append old.nodes (drop c.0 f.nodes), h.last) in
-    let ends = extents-end f.nodes ix.0 e in
-    let olds = extents-end old.nodes ix.0 e in
+    let deep : suc (length f.spine) ≡ suc (suc (length rest)) = ap (λ (s : List TreeIndex). suc (length s)) l.spine in
+    let at_front : c.0 ≡ length front =
+    omega (arith, length-extents shut.nodes, length-modify old.nodes ix.0 to, length-take-le c.0 f.nodes l.within) in
+    let split : modify f.nodes ix.0 to ≡ shut.nodes ++ more =
+    ap (λ (z : List (ℕ × Item)). modify z ix.0 to) (sym (take-append-drop c.0 f.nodes))
+    ∙ modify-front old.nodes more ix.0 to (open_there text old e ix rest l.spine h.before) in
     let closed : extents l.mid ≡ front ++ laid (suc (suc (length rest))) h.row =
-    cc (extents_alike _ l.mid l.alike, modify-front (extents old.nodes) more ix.0 (λ x. ended_at x e) extents_low) in
+    cc (extents_alike _ l.mid l.alike, extents-append shut.nodes more, h.last) in
     ordered_more text shut g e at h.row
     (cc (l.nodes, extents-moved front (laid (suc (suc (length rest))) h.row) l.mid closed, laid-shallower (suc (length rest)) h.row))
     l.outer (fits-any text (within_top shut) e at h.row h.fits) within
@@ -100,15 +89,7 @@ may_leave text f at h title is = (let l = h title is in record { before = l.befo
 
 -- so is the state
 pub ordered_at : (text : List ℕ) (r : PassState) (at : ℕ) → IsOrderedAt text r at → HoldsAt (order_kept text) at 0 r
-ordered_at text r at h = record {
-  holds = h.ordered;
-  goes = (h.later, h.within);
-  marked = λ e is.
-      let here : reached r.begin_list_item at ≡ e = ap (λ o. reached o at) is in
-      let later : reached r.begin_list_item at ≤ at = h.later in
-      let within : at ≤ length text = h.within in
-      ((omega arith, omega arith), (h.innermost e is).1);
-}
+ordered_at text r at h = grind arith
 
 pub ordered_before : (text : List ℕ) (r : PassState) (at : ℕ) → IsOrderedAt text r at → EndsBeforeTitle text r.tree at → HoldsBefore (order_kept text) at 0 r
 ordered_before text r at h closes = record { held = ordered_at text r at h; leaves = may_leave text r.tree at closes }
@@ -117,10 +98,4 @@ ordered_before text r at h closes = record { held = ordered_at text r at h; leav
 pub title_later : (text : List ℕ) (f : Forest Item) (a b : ℕ) → a ≤ b → EndsBeforeTitle text f a → EndsBeforeTitle text f b
 title_later text f a b later h title is =
     let l = h title is in
-    record {
-      before = l.before;
-      ends = l.ends;
-      row = l.row;
-      last = l.last;
-      fits = fits-later text Elsewhere (top_end f) a b l.row later l.fits;
-    }
+    record { before = l.before; ends = l.ends; row = l.row; last = l.last; fits = fits-later text Elsewhere (top_end f) a b l.row later l.fits }

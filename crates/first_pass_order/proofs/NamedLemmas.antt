@@ -1,26 +1,26 @@
 -- Each index in nodes names an entry: closing nodes and noting blank lines changes no index, and opening a container
 -- adds none.
-use Rattle.std.proofs.Common.{◌≡◌, ℕ, zero, suc, ◌+◌, ◌<◌, Bool, true, false, List, [], ◌∷◌, ◌++◌, length, slice_get, Option, Some, map, take, drop, None}
-use Rattle.std.proofs.Common.{refl, sym, ap, subst}
+use Rattle.std.proofs.Common.{◌≡◌, ℕ, zero, suc, ◌+◌, ◌<◌, Bool, true, false, List, [], ◌∷◌, ◌++◌, length, Option, Some, map, take, drop, None}
+use Rattle.std.proofs.Common.{refl, sym, ap, subst, arith}
 use Rattle.first_pass_grammar.proofs.Common.{Item, ItemBody, TaskListMarker, DefinitionList, MaybeDefinitionListTitle, TreeIndex, Forest, modify}
-use Rattle.first_pass_grammar.proofs.Common.{empty_forest, with_end_at, with_end, with_body_at, is_text, added, at_depth, map_from, deeper, shallower}
-use Rattle.first_pass_grammar.proofs.Common.{Names, Extends, index_of, NamesEntry, AreNamed, list_flags, is_task_marker, Options, Place, line_end, Kind}
-use Rattle.first_pass_grammar.proofs.Common.{document, lines_from, CowIndex}
+use Rattle.first_pass_grammar.proofs.Common.{empty_forest, with_end_at, with_end, with_body_at, is_text, added, at_depth, map_from, deeper, shallower, Names}
+use Rattle.first_pass_grammar.proofs.Common.{Extends, index_of, NamesEntry, AreNamed, list_flags, is_task_marker, Options, Place, line_end, Kind, document}
+use Rattle.first_pass_grammar.proofs.Common.{lines_from, CowIndex}
 use Rattle.first_pass_grammar.proofs.Names.TextsNamed.{opens_named}
 use Rattle.first_pass_grammar.proofs.Names.NamedItems.{IsNamed, named_more, named_both, named_deeper, named_modified}
 use Rattle.first_pass_names.proofs.NameLemmas.{extends_none}
 use Rattle.first_pass_open.specs.Path.{path_of}
 use Rattle.first_pass_order.specs.LeafBlocks.{AddsKind}
-use Rattle.first_pass_order.proofs.AlikeNodes.{AreAlike, NoNodes, OneMore, opened_both}
-use Rattle.first_pass_order.proofs.PropertyKept.{Property, HoldsAt, HoldsBefore, popped_keeps, empty_item_closed_keeps, blank_keeps}
-use Rattle.first_pass_order.proofs.PropertyKept.{list_finished_keeps, list_continued_keeps, quote_keeps, item_keeps, note_keeps, definition_keeps}
+use Rattle.first_pass_order.proofs.AlikeNodes.{AreAlike, NoNodes, OneMore, opened_both, like_blank}
+use Rattle.first_pass_order.proofs.PropertyKept.{Property, HoldsAt, HoldsBefore, popped_keeps, empty_item_closed_keeps, list_finished_keeps}
+use Rattle.first_pass_order.proofs.PropertyKept.{list_continued_keeps, quote_keeps, item_keeps, note_keeps, definition_keeps}
 use Rattle.first_pass_open.specs.OpenBlock.{with_child, begun_item}
-use Rattle.first_pass_lists.specs.Closing.{list_continued, popped, empty_item_closed, list_finished, begun, blank_read, footnote_begun}
-use Rattle.first_pass_lists.specs.Closing.{with_current, title_begun, definition_begun}
+use Rattle.first_pass_lists.specs.Closing.{list_continued, popped, empty_item_closed, list_finished, begun, blank_read, footnote_begun, with_current}
+use Rattle.first_pass_lists.specs.Closing.{title_begun, definition_begun}
 use Rattle.first_pass_lists.specs.declared.state.PassState.{PassState}
 use Rattle.first_pass_lists.proofs.NoEmptyItem.{item_opened}
 
--- the marker of a task is no text and has no index
+-- a task list item marker is no text and has no index
 pub task_is_no_text : (body : ItemBody) → is_task_marker body ≡ true → is_text body ≡ false
 task_is_no_text (TaskListMarker checked) h = refl
 task_is_no_text body h = cc
@@ -90,25 +90,21 @@ module _ (names : Names) where
   empty_item_closed_named r h = empty_item_closed_keeps named_kept 0 0 r (named_at r h)
 
   pub list_finished_named : (e : ℕ) (r : PassState) → AreReadNamed r → AreReadNamed (list_finished e r)
-  list_finished_named e r h =
-      list_finished_keeps named_kept 0 e 0 0 r (named_before r h) (record { closes = λ list. tt; ends = tt; short = tt; later = tt })
+  list_finished_named e r h = list_finished_keeps named_kept 0 e 0 0 r (named_before r h) ((λ list. tt), tt, tt, tt)
 
   pub blank_named : (r : PassState) → AreReadNamed r → AreReadNamed (blank_read r)
-  blank_named r h = blank_keeps named_kept 0 0 r h
+  blank_named r h = named_alike r.tree.nodes (blank_read r).tree.nodes (like_blank r).nodes h
 
   pub continued_named : (start byte number : ℕ) (r : PassState) → AreReadNamed r → AreReadNamed (list_continued start byte number r)
-  continued_named start byte number r h =
-      list_continued_keeps named_kept 0 start byte number 0 r (named_before r h) (record { here = tt; goes = tt; there = tt; starts = tt }) tt
+  continued_named start byte number r h = list_continued_keeps named_kept 0 start byte number 0 r (named_before r h) (tt, tt, tt, tt) tt
 
   pub item_named : (start byte number columns : ℕ) (r : PassState) → AreReadNamed r → AreReadNamed (item_opened start byte number columns r)
-  item_named start byte number columns r h =
-      item_keeps named_kept 0 start byte number columns 0 r (named_before r h) (record { here = tt; goes = tt; there = tt; starts = tt }) tt tt
+  item_named start byte number columns r h = item_keeps named_kept 0 start byte number columns 0 r (named_before r h) (tt, tt, tt, tt) tt tt
 
   pub quote_named : (line start : ℕ) (body : ItemBody) (r : PassState)
       → NamesEntry names (index_of body) → AreReadNamed r → AreReadNamed (begun start body (list_finished line r))
   quote_named line start body r own h =
-      quote_keeps named_kept 0 line 0 start 0 body r (named_before r h) (record { closes = λ list. tt; ends = tt; short = tt; later = tt })
-      tt tt own
+      quote_keeps named_kept 0 line 0 start 0 body r (named_before r h) ((λ list. tt), tt, tt, tt) tt tt own
 
   pub note_named : (start : ℕ) (index : CowIndex) (r : PassState) → index.0 < length names.texts → AreReadNamed r → AreReadNamed (footnote_begun start index r)
   note_named start index r own h = note_keeps named_kept 0 start 0 index r (named_before r h) tt tt tt own
@@ -123,10 +119,8 @@ module _ (names : Names) where
 
   pub title_begun_named : (e : ℕ) (r : PassState) → AreReadNamed r → AreReadNamed (title_begun e r)
   unfolding title_begun
-  title_begun_named e r h =
-      end_named (with_current r.tree MaybeDefinitionListTitle r.tree.current) e (slice_get r.tree.spine 0) (title_named r.tree r.tree.current h)
+  title_begun_named e r h = grind (arith, end_named, title_named)
 
-  -- a definition, in the open list or in a new one
   wrapped_named : (nodes : List (ℕ × Item)) (j : ℕ) (t : ℕ × Item) → IsNamed names t.1 → AreNamed names nodes
       → AreNamed names (take j nodes ++ t ∷ map deeper (drop j nodes))
   unfolding AreNamed
@@ -134,6 +128,7 @@ module _ (names : Names) where
   wrapped_named [] (suc j) t own h = (own, tt)
   wrapped_named (n ∷ nodes) (suc j) t own h = (h.0, wrapped_named nodes j t own h.1)
 
+  -- a definition, in the open list or in a new one
   pub definition_named : (start columns : ℕ) (r : PassState) → AreReadNamed r → AreReadNamed (definition_begun start columns r)
   definition_named start columns r h =
       definition_keeps named_kept 0 start columns 0 r tt tt tt
@@ -142,7 +137,7 @@ module _ (names : Names) where
       wrapped_named (with_body_at r.tree c (DefinitionList (list_flags true))).nodes (c.0 + 1) _ tt
       (body_named r.tree c (DefinitionList (list_flags true)) tt h)))
 
-  -- the marker of a task
+  -- a task list item marker
   pub child_named : (f : Forest Item) (marker : Option Item)
       → ((x : Item) → marker ≡ Some x → is_task_marker x.body ≡ true) → AreNamed names f.nodes → AreNamed names (with_child f marker).nodes
   child_named f None mark h = h
@@ -167,5 +162,4 @@ kind_named text options names p kind gap old new next a =
 -- the root has no index
 pub first_named : (names : Names) (tree : Forest Item) (root : TreeIndex) (e : ℕ) → tree ≡ with_end_at empty_forest root e → AreNamed names tree.nodes
 unfolding AreNamed
-first_named names tree root e is = subst (λ (f : Forest Item). AreNamed names f.nodes) (sym is)
-    (named_modified names empty_forest.nodes root.0 (λ x. record x { «end» = e }) (λ x k. k) (tt, tt))
+first_named names tree root e is = rw is (named_modified names empty_forest.nodes root.0 (λ x. record x { «end» = e }) (λ x k. k) (tt, tt))

@@ -1,24 +1,24 @@
 -- Only items are open directly in lists, as nodes are opened and closed and blank lines are noted. After a node is
 -- closed, no possible title is last.
-use Rattle.std.proofs.Common.{◌≡◌, ℕ, zero, suc, ◌+◌, ◌<◌, ◌≤◌, ◌&&◌, true, false, List, [], ◌∷◌, ◌++◌, length, Option, Some, None, refl, sym, ap, subst}
-use Rattle.std.proofs.Common.{◌∙◌, arith, length-append, true≢false, option_and_then, option_map, IsSomeAnd}
+use Rattle.std.proofs.Common.{◌≡◌, ℕ, zero, suc, ◌+◌, ◌<◌, ◌≤◌, true, false, List, [], ◌∷◌, ◌++◌, length, Option, Some, None, refl, sym, ap, subst, ◌∙◌}
+use Rattle.std.proofs.Common.{arith, length-append, true≢false, option_and_then, option_map, IsSomeAnd}
 use Rattle.first_pass_grammar.proofs.Common.{cond_both, and_parts, false_from_ne_true, none-some, cond_some, CowIndex, Item, ItemBody, Paragraph}
 use Rattle.first_pass_grammar.proofs.Common.{DefinitionList, DefinitionListDefinition, MaybeDefinitionListTitle, TreeIndex, body-kept, Forest, empty_forest}
 use Rattle.first_pass_grammar.proofs.Common.{with_end_at, modify, with_body_at, body_at, map_from, shallower, added, length-modify, list_flags}
-use Rattle.first_pass_grammar.proofs.Common.{is_task_marker}
+use Rattle.first_pass_grammar.proofs.Common.{is_task_marker, item_on_top}
 use Rattle.first_pass_items.specs.declared.item.ItemBody.TheVariants.{List as ListBody, ListItem as ListItemBody}
 use Rattle.first_pass_items.specs.declared.item.ItemBody.TheVariants.{FootnoteDefinition as FootnoteDefinitionBody}
 use Rattle.first_pass_open.specs.OpenBlock.{closed_by, with_child}
 use Rattle.first_pass_open.proofs.PathLemmas.{AreIn, get_front}
-use Rattle.first_pass_lists.specs.Closing.{state_with, with_tree, top_body, is_definition_list, is_list, is_list_of, is_item}
-use Rattle.first_pass_lists.specs.Closing.{is_footnote, popped_at, current_moved, definitions_closed, title_by, possible_title, title_closed, top_end}
-use Rattle.first_pass_lists.specs.Closing.{popped_after, popped, empty_item_closed_by, empty_item_closed, list_closed, footnote_left, gap_marked}
-use Rattle.first_pass_lists.specs.Closing.{list_finished, list_kept, begun, footnote_begun, list_continued, blank_read_by, blank_read}
+use Rattle.first_pass_lists.specs.Closing.{state_with, with_tree, top_body, is_definition_list, is_list, is_list_of, is_item, is_footnote, popped_at}
+use Rattle.first_pass_lists.specs.Closing.{current_moved, definitions_closed, title_by, possible_title, title_closed, top_end, popped_after, popped}
+use Rattle.first_pass_lists.specs.Closing.{empty_item_closed_by, empty_item_closed, list_closed, footnote_left, gap_marked, list_finished, list_kept, begun}
+use Rattle.first_pass_lists.specs.Closing.{footnote_begun, list_continued, blank_read_by, blank_read}
 use Rattle.first_pass_lists.specs.declared.state.PassState.{PassState}
 use Rattle.first_pass_lists.proofs.MovedLemmas.{lower_length}
 use Rattle.first_pass_order.proofs.OrderLemmas.{get_mid}
 use Rattle.first_pass_order.proofs.AlikeNodes.{class_of, AreAlike, NoNodes, OneMore, LooksAlike, like_body, like_popped, like_noted, like_kept, like_blank}
-use Rattle.first_pass_order.specs.Ordered.{top_of, AreNested, EndsBeforeTitle, HasDefinition, CanClose}
+use Rattle.first_pass_order.specs.Ordered.{top_of, AreNested, HasDefinition, CanClose}
 
 -- as many nodes, of the same classes
 pub record AreClassed (old new : List (ℕ × Item)) : Type 0 where
@@ -61,8 +61,7 @@ nested_within nodes [] h = tt
 nested_within nodes (ix ∷ spine) h = (h.0, nested_within nodes spine h.2)
 
 pub nested_classed : (old new : List (ℕ × Item)) (spine : List TreeIndex) → AreClassed old new → AreNested old spine → AreNested new spine
-nested_classed old new spine c h =
-    nested_before old new (length old) spine (λ i low. c.same i) (let n = c.size in omega arith) (nested_within old spine h) h
+nested_classed old new spine c h = grind (arith, nested_before, nested_within)
 
 -- more nodes after them
 pub nested_front : (nodes more : List (ℕ × Item)) (spine : List TreeIndex) → AreNested nodes spine → AreNested (nodes ++ more) spine
@@ -76,10 +75,7 @@ top_front nodes more (ix ∷ spine) h = ap (option_map (λ n. n.1.body)) (get_fr
 
 -- changes that keep the classes
 pub classed_ended : (nodes : List (ℕ × Item)) (k e : ℕ) → AreClassed nodes (modify nodes k (λ x. record x { «end» = e }))
-classed_ended nodes k e = record {
-  size = length-modify nodes k (λ x. record x { «end» = e });
-  same = λ i. ap class_of (body-kept nodes k i (λ x. record x { «end» = e }) (λ x. refl));
-}
+classed_ended nodes k e = grind (arith, length-modify, body-kept)
 
 pub body-moved : (place : ℕ) (nodes : List (ℕ × Item)) (i : ℕ) → body_at (map_from shallower place nodes) i ≡ body_at nodes i
 body-moved zero [] i = refl
@@ -97,25 +93,21 @@ pub like_class : (f g : Forest Item) → LooksAlike f g → class_of (top_body g
 like_class f g a = ap (λ s. class_of (top_of g.nodes s)) a.spine ∙ top_classed f.nodes g.nodes f.spine (classed_alike f.nodes g.nodes a.nodes)
 
 -- a definition list is a list, and neither an item nor a footnote definition
-pub definitions_are : (b : Option ItemBody) → is_definition_list b ≡ true → (is_list b ≡ true) × (is_item b ≡ false) × (is_footnote b ≡ false)
+pub definitions_are : (b : Option ItemBody) → is_definition_list b ≡ true
+    → (is_list b ≡ true) × (is_item b ≡ false) × (is_footnote b ≡ false) × (item_on_top b ≡ false)
 definitions_are None h = cc
-definitions_are (Some (DefinitionList flags)) h = (refl, refl, refl)
+definitions_are (Some (DefinitionList flags)) h = (refl, refl, refl, refl)
 definitions_are (Some b) h = cc
 
 pub other_list : (b : Option ItemBody) → is_list b ≡ false → is_definition_list b ≡ false
 other_list b none = false_from_ne_true (is_definition_list b) (λ list. true≢false (sym (definitions_are b list).0 ∙ none))
 
--- a list is no item, nor is a footnote definition
-list_other : (b : Option ItemBody) → is_list b ≡ true → is_item b ≡ false
-list_other None h = cc
-list_other (Some (ListBody flags byte number)) h = refl
-list_other (Some (DefinitionList flags)) h = refl
-list_other (Some b) h = cc
-
-note_other : (b : Option ItemBody) → is_footnote b ≡ true → is_item b ≡ false
-note_other None h = cc
-note_other (Some (FootnoteDefinitionBody label)) h = refl
-note_other (Some b) h = cc
+-- an item is neither a list nor a footnote definition, nor a task list item marker
+item_is : (b : Option ItemBody) → is_item b ≡ true → (is_list b ≡ false) × (is_footnote b ≡ false) × IsSomeAnd b (λ c. is_task_marker c ≡ false)
+item_is None h = cc
+item_is (Some (ListItemBody columns)) h = (refl, refl, refl)
+item_is (Some (DefinitionListDefinition columns)) h = (refl, refl, refl)
+item_is (Some b) h = cc
 
 -- the current node, a possible title in an open definition list
 pub record TitleThere (f : Forest Item) (title : TreeIndex) : Type 0 where
@@ -132,9 +124,7 @@ title_is top c (Some b) title is = cc
 there_with : (f : Forest Item) (o : Option TreeIndex) (title : TreeIndex) → f.current ≡ o
     → option_and_then (λ ix. title_by (top_body f) ix (body_at f.nodes ix.0)) o ≡ Some title → TitleThere f title
 there_with f None title current is = cc
-there_with f (Some c) title current is =
-    let (same, body, list) = title_is (top_body f) c (body_at f.nodes c.0) title is in
-    record { current = current ∙ ap (λ z. Some z) same; body = ap (λ (z : TreeIndex). body_at f.nodes z.0) (sym same) ∙ body; list = list }
+there_with f (Some c) title current is = grind (arith, title_is)
 
 pub title_there : (f : Forest Item) (title : TreeIndex) → possible_title f ≡ Some title → TitleThere f title
 title_there f title is = there_with f f.current title refl is
@@ -152,10 +142,7 @@ note_untitled f note = untitled f (λ title t. true≢false (sym note ∙ (defin
 
 item_untitled : (f : Forest Item) (ix : TreeIndex) → f.current ≡ Some ix → (is_list (top_body f) ≡ true → is_item (body_at f.nodes ix.0) ≡ true)
     → possible_title f ≡ None
-item_untitled f ix current item =
-    untitled f (λ title t.
-    let here : title ≡ ix = (let a = t.current in cc) in
-    true≢false (sym (item (definitions_are (top_body f) t.list).0) ∙ ap (λ (z : TreeIndex). is_item (body_at f.nodes z.0)) (sym here) ∙ ap is_item t.body))
+item_untitled f ix current item = grind (arith, untitled, definitions_are)
 
 -- The innermost open node is closed: the nodes keep their classes, and it is current.
 pub record PopsTo (r q : PassState) (ix : TreeIndex) (rest : List TreeIndex) : Type 0 where
@@ -187,58 +174,31 @@ IsOutside r = AreNested r.tree.nodes r.tree.spine × (is_list (top_body r.tree) 
 
 -- nested, and the innermost open node is no definition list
 other_settled : (r : PassState) → AreNested r.tree.nodes r.tree.spine → is_definition_list (top_body r.tree) ≡ false → IsSettled r
-other_settled r h other = record {
-  nested = h;
-  none = untitled r.tree (λ title t. true≢false (sym t.list ∙ other));
-  last = λ list. absurd (true≢false (sym list ∙ other));
-}
+other_settled r h other = grind (arith, untitled)
 
 pub outside_settled : (r : PassState) → IsOutside r → IsSettled r
 outside_settled r h = other_settled r h.0 (other_list (top_body r.tree) h.1)
 
 pub item_settled : (r : PassState) → AreNested r.tree.nodes r.tree.spine → is_item (top_body r.tree) ≡ true → IsSettled r
-item_settled r h item =
-    other_settled r h (false_from_ne_true (is_definition_list (top_body r.tree)) (λ list. true≢false (sym item ∙ (definitions_are (top_body r.tree) list).1)))
-
-item_unmarked : (b : Option ItemBody) → is_item b ≡ true → IsSomeAnd b (λ c. is_task_marker c ≡ false)
-item_unmarked None h = cc
-item_unmarked (Some (ListItemBody columns)) h = refl
-item_unmarked (Some (DefinitionListDefinition columns)) h = refl
-item_unmarked (Some b) h = cc
+item_settled r h item = grind (arith, other_settled, false_from_ne_true, definitions_are)
 
 pops_nested : (r q : PassState) (ix : TreeIndex) (rest : List TreeIndex) → AreNested r.tree.nodes (ix ∷ rest) → PopsTo r q ix rest
     → AreNested q.tree.nodes q.tree.spine
-pops_nested r q ix rest h p =
-    subst (AreNested q.tree.nodes) (sym p.spine) (nested_classed r.tree.nodes q.tree.nodes rest p.same h.2)
+pops_nested r q ix rest h p = grind (arith, nested_classed)
 
 pops_top : (r q : PassState) (ix : TreeIndex) (rest : List TreeIndex) → PopsTo r q ix rest → is_list (top_body q.tree) ≡ is_list (top_of r.tree.nodes rest)
-pops_top r q ix rest p =
-    ap (λ s. is_list (top_of q.tree.nodes s)) p.spine ∙ ap (λ t. t.0) (top_classed r.tree.nodes q.tree.nodes rest p.same)
+pops_top r q ix rest p = grind (arith, top_classed)
 
 -- a node that is no item is closed: the innermost open node is then no list
-pops_outside : (r q : PassState) (ix : TreeIndex) (rest : List TreeIndex) → AreNested r.tree.nodes (ix ∷ rest) → is_item (body_at r.tree.nodes ix.0) ≡ false
-    → PopsTo r q ix rest → IsOutside q
-pops_outside r q ix rest h other p = (
-  pops_nested r q ix rest h p,
-  pops_top r q ix rest p ∙ false_from_ne_true (is_list (top_of r.tree.nodes rest)) (λ list. true≢false (sym (h.1 list) ∙ other)),
-)
-
-pops_settled : (r q : PassState) (ix : TreeIndex) (rest : List TreeIndex) → AreNested r.tree.nodes (ix ∷ rest) → PopsTo r q ix rest → IsSettled q
-pops_settled r q ix rest h p =
-    let item : is_list (top_body q.tree) ≡ true → is_item (body_at q.tree.nodes ix.0) ≡ true =
-    λ list. ap (λ t. t.1) (p.same.same ix.0) ∙ h.1 (sym (pops_top r q ix rest p) ∙ list) in
-    record {
-      nested = pops_nested r q ix rest h p;
-      none = item_untitled q.tree ix p.current item;
-      last = λ list. subst (λ o. IsSomeAnd (option_and_then (λ c. body_at q.tree.nodes c.0) o) (λ b. is_task_marker b ≡ false)) (sym p.current)
-          (item_unmarked (body_at q.tree.nodes ix.0) (item (definitions_are (top_body q.tree) list).0));
-    }
-
 at_outside : (e : ℕ) (r : PassState) (spine : List TreeIndex) → r.tree.spine ≡ spine → AreNested r.tree.nodes r.tree.spine
-    → is_item (top_of r.tree.nodes spine) ≡ false → IsOutside (popped_at e r spine)
+    → (is_item (top_of r.tree.nodes spine) ≡ true → ⊥) → IsOutside (popped_at e r spine)
 at_outside e r [] is h other = (h, ap (λ s. is_list (top_of r.tree.nodes s)) is)
 at_outside e r (ix ∷ rest) is h other =
-    pops_outside r (popped_at e r (ix ∷ rest)) ix rest (subst (AreNested r.tree.nodes) is h) other (pops_at e r ix rest)
+    let p = pops_at e r ix rest in
+    let nested = subst (AreNested r.tree.nodes) is h in (
+      pops_nested r (popped_at e r (ix ∷ rest)) ix rest nested p,
+      pops_top r (popped_at e r (ix ∷ rest)) ix rest p ∙ false_from_ne_true (is_list (top_of r.tree.nodes rest)) (λ list. other (nested.1 list)),
+    )
 
 -- The innermost definition list is closed, and its possible title is moved out of it: the innermost open node is then
 -- no list.
@@ -256,7 +216,8 @@ pub definitions_closed_outside : (e : ℕ) (r : PassState) → AreNested r.tree.
     → IsOutside (definitions_closed e r)
 unfolding definitions_closed
 definitions_closed_outside e r h list =
-    moved_outside (popped_at e r r.tree.spine) r.tree.current (at_outside e r r.tree.spine refl h (definitions_are (top_body r.tree) list).1)
+    moved_outside (popped_at e r r.tree.spine) r.tree.current
+    (at_outside e r r.tree.spine refl h (λ item. true≢false (sym item ∙ (definitions_are (top_body r.tree) list).1)))
 
 -- a possible title becomes a paragraph first
 pub title_closed_outside : (r : PassState) (title : TreeIndex) → TitleThere r.tree title → AreNested r.tree.nodes r.tree.spine
@@ -281,7 +242,17 @@ popped_both e r P none some = after_both e r P (possible_title r.tree) refl none
 at_settled : (e : ℕ) (r : PassState) (spine : List TreeIndex) → r.tree.spine ≡ spine → IsSettled r → IsSettled (popped_at e r spine)
 at_settled e r [] is h = h
 at_settled e r (ix ∷ rest) is h =
-    pops_settled r (popped_at e r (ix ∷ rest)) ix rest (subst (AreNested r.tree.nodes) is h.nested) (pops_at e r ix rest)
+    let q : PassState = popped_at e r (ix ∷ rest) in
+    let p = pops_at e r ix rest in
+    let nested = subst (AreNested r.tree.nodes) is h.nested in
+    let item : is_list (top_body q.tree) ≡ true → is_item (body_at q.tree.nodes ix.0) ≡ true =
+    λ list. ap (λ t. t.1) (p.same.same ix.0) ∙ nested.1 (sym (pops_top r q ix rest p) ∙ list) in
+    record {
+      nested = pops_nested r q ix rest nested p;
+      none = item_untitled q.tree ix p.current item;
+      last = λ list. subst (λ o. IsSomeAnd (option_and_then (λ c. body_at q.tree.nodes c.0) o) (λ b. is_task_marker b ≡ false)) (sym p.current)
+          (item_is (body_at q.tree.nodes ix.0) (item (definitions_are (top_body q.tree) list).0)).2;
+    }
 
 pub popped_settled : (e : ℕ) (r : PassState) → AreNested r.tree.nodes r.tree.spine → HasDefinition r.tree → IsSettled (popped e r)
 popped_settled e r h last =
@@ -303,7 +274,7 @@ popped_item e r item =
     popped_both e r (λ q. possible_title q.tree ≡ None) (λ none. at_item e r r.tree.spine item) (λ title is. absurd (title_no_item r.tree title is item))
 
 -- the same for a list or a footnote definition: no list is innermost then
-pub popped_outside : (e : ℕ) (r : PassState) → AreNested r.tree.nodes r.tree.spine → is_item (top_body r.tree) ≡ false → IsOutside (popped e r)
+pub popped_outside : (e : ℕ) (r : PassState) → AreNested r.tree.nodes r.tree.spine → (is_item (top_body r.tree) ≡ true → ⊥) → IsOutside (popped e r)
 popped_outside e r h other =
     popped_both e r IsOutside (λ none. at_outside e r r.tree.spine refl h other)
     (λ title is. title_closed_outside r title (title_there r.tree title is) h)
@@ -312,9 +283,7 @@ popped_outside e r h other =
 finished_by : (r : PassState) (P : Forest Item → Type 0) (o : Option ℕ) → r.begin_list_item ≡ o → P r.tree
     → ((e : ℕ) → r.begin_list_item ≡ Some e → is_item (top_body r.tree) ≡ true → P (popped e r).tree) → P (empty_item_closed_by r o).tree
 finished_by r P None is same closed = same
-finished_by r P (Some e) is same closed =
-    cond_both (r.blank && is_item (top_body r.tree)) (popped e r) r (λ (q : PassState). P q.tree)
-    (λ b. closed e is (and_parts r.blank (is_item (top_body r.tree)) b).1) (λ b. same)
+finished_by r P (Some e) is same closed = grind (arith, cond_both, and_parts)
 
 pub finished_both : (r : PassState) (P : Forest Item → Type 0) → P r.tree
     → ((e : ℕ) → r.begin_list_item ≡ Some e → is_item (top_body r.tree) ≡ true → P (popped e r).tree) → P (empty_item_closed r).tree
@@ -331,11 +300,13 @@ empty_item_closed_nested r h = finished_both r (λ f. AreNested f.nodes f.spine)
 -- closing an innermost list or footnote definition
 pub list_left_outside : (e : ℕ) (r : PassState) → AreNested r.tree.nodes r.tree.spine → IsOutside (list_closed e r)
 list_left_outside e r h =
-    cond_both (is_list (top_body r.tree)) (popped e r) r IsOutside (λ list. popped_outside e r h (list_other (top_body r.tree) list)) (λ none. (h, none))
+    cond_both (is_list (top_body r.tree)) (popped e r) r IsOutside
+    (λ list. popped_outside e r h (λ item. true≢false (sym list ∙ (item_is (top_body r.tree) item).0))) (λ none. (h, none))
 
 pub footnote_left_outside : (e : ℕ) (r : PassState) → IsOutside r → IsOutside (footnote_left e r)
 footnote_left_outside e r h =
-    cond_both (is_footnote (top_body r.tree)) (popped e r) r IsOutside (λ note. popped_outside e r h.0 (note_other (top_body r.tree) note)) (λ none. h)
+    cond_both (is_footnote (top_body r.tree)) (popped e r) r IsOutside
+    (λ note. popped_outside e r h.0 (λ item. true≢false (sym note ∙ (item_is (top_body r.tree) item).1))) (λ none. h)
 
 pub noted_outside : (r : PassState) → IsOutside r → IsOutside (gap_marked r)
 noted_outside r h =
@@ -395,7 +366,7 @@ footnote_begun_settled start index r h =
     begun_outside start (FootnoteDefinitionBody index) (gap_marked q) refl
     (noted_outside q (footnote_left_outside start (list_closed start s) (list_left_outside start s (empty_item_closed_nested r h))))
 
--- the marker of a task, and a block that is added
+-- a task list item marker, and a block that is added
 pub child_outside : (f : Forest Item) (marker : Option Item) → AreNested f.nodes f.spine → is_list (top_body f) ≡ false
     → AreNested (with_child f marker).nodes (with_child f marker).spine × (is_list (top_body (with_child f marker)) ≡ false)
 child_outside f None h none = (h, none)
@@ -407,11 +378,8 @@ pub added_outside : (f : Forest Item) (items : List (ℕ × Item)) → AreNested
 added_outside f items h none = (nested_front f.nodes _ f.spine h, ap is_list (top_front f.nodes _ f.spine h) ∙ none)
 
 -- the nodes can then be closed in order
-pub untitled_closes : (text : List ℕ) (f : Forest Item) (at : ℕ) → possible_title f ≡ None → EndsBeforeTitle text f at
-untitled_closes text f at none title is = absurd (none-some title (sym none ∙ is))
-
 pub settled_closes : (text : List ℕ) (r : PassState) (at : ℕ) → IsSettled r → CanClose text r.tree at
-settled_closes text r at h = record { nested = h.nested; last = h.last; title = untitled_closes text r.tree at h.none }
+settled_closes text r at h = record { nested = h.nested; last = h.last; title = λ title is. absurd (none-some title (sym h.none ∙ is)) }
 
 pub outside_closes : (text : List ℕ) (r : PassState) (at : ℕ) → IsOutside r → CanClose text r.tree at
 outside_closes text r at h = settled_closes text r at (outside_settled r h)
@@ -435,5 +403,4 @@ blank_item r = ap (λ t. t.1) (like_class r.tree (blank_read r).tree (like_blank
 
 -- before the first block
 pub first_closes : (text : List ℕ) (tree : Forest Item) (root : TreeIndex) (e at : ℕ) → tree ≡ with_end_at empty_forest root e → CanClose text tree at
-first_closes text tree root e at is =
-    subst (λ (f : Forest Item). CanClose text f at) (sym is) (tree_closes text (with_end_at empty_forest root e) at tt refl)
+first_closes text tree root e at is = grind (arith, tree_closes)

@@ -1,19 +1,17 @@
 -- Adding and opening nodes keeps order, and so does closing the innermost open node.
 use Rattle.std.proofs.Common.{◌≡◌, ℕ, zero, suc, ◌+◌, ◌≤◌, Bool, true, false, if◌then◌else◌, List, [], ◌∷◌, ◌++◌, length, slice_get, Option, Some, None}
 use Rattle.std.proofs.Common.{IsUtf8, IsCharBoundary, refl, sym, ap, subst, ◌∙◌, arith, option_and_then, option_map}
-use Rattle.first_pass_grammar.proofs.Common.{IsCharBoundary-start, IsCharBoundary-end, none-some, Item, ItemBody, DefinitionListDefinition}
-use Rattle.first_pass_grammar.proofs.Common.{some_mapped, TreeIndex, Forest, empty_forest, with_end_at, body_at, modify, at_depth, appended, added, Ranged}
-use Rattle.first_pass_grammar.proofs.Common.{is_text_block, is_task_marker, extent_of, extents, Siblings, Empty, laid, IsBetween, Elsewhere, InItem, Fits}
-use Rattle.first_pass_grammar.proofs.Common.{FitsBetween, laid_open, AreAt, open_within, FitsOpen, item_on_top, within_top, IsOrderedTo}
+use Rattle.first_pass_grammar.proofs.Common.{IsCharBoundary-start, IsCharBoundary-end, none-some, Item, ItemBody, DefinitionListDefinition, some_mapped}
+use Rattle.first_pass_grammar.proofs.Common.{TreeIndex, Forest, empty_forest, with_end_at, body_at, modify, at_depth, appended, added, Ranged, is_text_block}
+use Rattle.first_pass_grammar.proofs.Common.{is_task_marker, extent_of, extents, Siblings, Empty, laid, IsBetween, Elsewhere, InItem, Fits, FitsBetween}
+use Rattle.first_pass_grammar.proofs.Common.{laid_open, AreAt, open_within, FitsOpen, item_on_top, within_top, IsOrderedTo}
 use Rattle.std.proofs.lemmas.Option.{slice_get-map}
 use Rattle.first_pass_items.specs.declared.item.ItemBody.TheVariants.{ListItem as ListItemBody}
-use Rattle.first_pass_grammar.specs.Order.{is_list_item, is_definition_list, Node}
-use Rattle.first_pass_grammar.specs.Order.{IsOrdered}
+use Rattle.first_pass_grammar.specs.Order.{is_list_item, is_definition_list, Node, IsOrdered}
 use Rattle.first_pass_grammar.proofs.Order.Orders.{beside, ended_at, extents-append, length-extents, extents-at_depth, laid-at_depth, laid-one}
-use Rattle.first_pass_grammar.proofs.Order.Orders.{laid_open-beside}
-use Rattle.first_pass_grammar.proofs.Order.Orders.{laid_open-pushed, laid_open-level, laid_open-popped, laid_open-root, length-places, fits-one}
-use Rattle.first_pass_grammar.proofs.Order.Orders.{fits_open-later}
-use Rattle.first_pass_grammar.proofs.Order.Orders.{fits_open-beside, fits_open-pushed, fits_open-popped, extents-ended, extents-kept, fits-whole}
+use Rattle.first_pass_grammar.proofs.Order.Orders.{laid_open-beside, laid_open-pushed, laid_open-level, laid_open-popped, laid_open-root, length-places}
+use Rattle.first_pass_grammar.proofs.Order.Orders.{fits-one, fits_open-later, fits_open-beside, fits_open-pushed, fits_open-popped, extents-ended}
+use Rattle.first_pass_grammar.proofs.Order.Orders.{extents-kept, fits-whole}
 use Rattle.first_pass_open.specs.OpenBlock.{closed_by}
 use Rattle.first_pass_lists.specs.Closing.{is_item, popped_by, begun}
 use Rattle.first_pass_lists.specs.declared.state.PassState.{PassState}
@@ -22,16 +20,7 @@ use Rattle.first_pass_order.specs.Ordered.{reached, IsOrderedAt}
 -- another forest with the same open nodes, in which the innermost one has these below it
 pub ordered_with : (text : List ℕ) (f g : Forest Item) (a b : ℕ) (h : IsOrderedTo text f a) (row : Siblings)
     → extents g.nodes ≡ laid_open h.root h.levels row → g.spine ≡ f.spine → FitsOpen text b h.levels row → b ≤ length text → IsOrderedTo text g b
-ordered_with text f g a b h row nodes spine fits within = record {
-  root = h.root;
-  levels = h.levels;
-  row = row;
-  nodes = nodes;
-  places = subst (λ (s : List TreeIndex). AreAt h.root h.levels s) (sym spine) h.places;
-  fits = fits;
-  within = within;
-  whole = h.whole;
-}
+ordered_with text f g a b h row nodes spine fits within = grind arith
 
 -- a forest with the same extents and open nodes
 pub ordered_same : (text : List ℕ) (f g : Forest Item) (a : ℕ)
@@ -129,22 +118,22 @@ ordered_begun text r a start body later within starts h =
 whole_by : (text : List ℕ) (nodes : List (ℕ × Item)) (to : ℕ) (root : Ranged) (levels : List (Siblings × Ranged)) (row : Siblings)
     → extents nodes ≡ laid_open root levels row → AreAt root levels [] → FitsOpen text to levels row → to ≤ length text
     → IsBetween text 0 (length text) root × (root.start ≡ 0) × (root.«end» ≡ length text) → IsOrdered text nodes
-whole_by text nodes to root [] row is places fits within whole =
-    (Node root row Empty, is ∙ laid_open-root root row, fits-whole text root to row whole.0 whole.1 whole.2 within fits)
+whole_by text nodes to root [] row is places fits within whole = grind (arith, laid_open-root, fits-whole)
 whole_by text nodes to root (level ∷ levels) row is places fits within whole = absurd places
 
 -- a tree in which all nodes are closed
 pub ordered_whole : (text : List ℕ) (f : Forest Item) (to : ℕ) → f.spine ≡ [] → IsOrderedTo text f to → IsOrdered text f.nodes
-ordered_whole text f to closed h =
-    whole_by text f.nodes to h.root h.levels h.row h.nodes (subst (λ (s : List TreeIndex). AreAt h.root h.levels s) closed h.places) h.fits h.within h.whole
+ordered_whole text f to closed h = grind (arith, whole_by)
 
-first_at : (text : List ℕ) → IsUtf8 text → IsOrderedTo text (with_end_at empty_forest (record { 0 = 0 }) (length text)) 0
+-- before the first block
+pub ordered_first : (text : List ℕ) (tree : Forest Item) (root : TreeIndex)
+    → IsUtf8 text → root.0 ≡ 0 → tree ≡ with_end_at empty_forest root (length text) → IsOrderedTo text tree 0
 unfolding laid_open laid FitsOpen Fits
-first_at text utf8 =
+ordered_first text tree root utf8 top tree_is =
     let n : 0 ≤ length text = omega arith in
     let z : 0 ≤ 0 = omega arith in
     let l : length text ≤ length text = omega arith in
-    record {
+    rw (tree_is, top) (record {
       root = record { start = 0; «end» = length text; text_block = false; marker = false; item = false; definitions = false };
       levels = [];
       row = Empty;
@@ -153,15 +142,7 @@ first_at text utf8 =
       fits = z;
       within = n;
       whole = (record { following = z; order = n; before = l; starts = IsCharBoundary-start text utf8; ends = IsCharBoundary-end text }, refl, refl);
-    }
-
--- before the first block
-pub ordered_first : (text : List ℕ) (tree : Forest Item) (root : TreeIndex)
-    → IsUtf8 text → root.0 ≡ 0 → tree ≡ with_end_at empty_forest root (length text) → IsOrderedTo text tree 0
-ordered_first text tree root utf8 top tree_is =
-    let at_top : ℕ → TreeIndex = λ n. record { 0 = n } in
-    let e : tree ≡ with_end_at empty_forest (at_top 0) (length text) = tree_is ∙ ap (λ n. with_end_at empty_forest (at_top n) (length text)) top in
-    subst (λ (f : Forest Item). IsOrderedTo text f 0) (sym e) (first_at text utf8)
+    })
 
 -- the innermost open node of a tree in order, its siblings, and the levels around it
 pub record InnerLevel (text : List ℕ) (f : Forest Item) (at : ℕ) (ix : TreeIndex) (rest : List TreeIndex) : Type 0 where
@@ -178,17 +159,7 @@ pub record InnerLevel (text : List ℕ) (f : Forest Item) (at : ℕ) (ix : TreeI
 inner_by : (text : List ℕ) (f : Forest Item) (at : ℕ) (ix : TreeIndex) (rest : List TreeIndex) (h : IsOrderedTo text f at) (levels : List (Siblings × Ranged))
     → levels ≡ h.levels → AreAt h.root levels (ix ∷ rest) → InnerLevel text f at ix rest
 inner_by text f at ix rest h [] is places = absurd places
-inner_by text f at ix rest h (level ∷ levels) is places = record {
-  root = h.root;
-  level = level;
-  levels = levels;
-  row = h.row;
-  nodes = h.nodes ∙ ap (λ z. laid_open h.root z h.row) (sym is);
-  place = places.0;
-  outer = places.1;
-  fits = subst (λ z. FitsOpen text at z h.row) (sym is) h.fits;
-  whole = h.whole;
-}
+inner_by text f at ix rest h (level ∷ levels) is places = grind arith
 
 pub inner : (text : List ℕ) (f : Forest Item) (at : ℕ) (ix : TreeIndex) (rest : List TreeIndex) → f.spine ≡ ix ∷ rest → IsOrderedTo text f at
     → InnerLevel text f at ix rest
@@ -219,24 +190,17 @@ popped_empty r f ix b item = cc
 
 -- if no item is empty, the order of the state is that of the tree
 pub ordered_none : (text : List ℕ) (r : PassState) (at : ℕ) → r.begin_list_item ≡ None → at ≤ length text → IsOrderedTo text r.tree at → IsOrderedAt text r at
-ordered_none text r at none within h =
-    let same : reached r.begin_list_item at ≡ at = ap (λ (o : Option ℕ). reached o at) none in
-    record {
-      ordered = subst (λ (n : ℕ). IsOrderedTo text r.tree n) (sym same) h;
-      later = omega arith;
-      within = within;
-      innermost = λ e is. absurd (none-some e (sym none ∙ is));
-    }
+ordered_none text r at none within h = grind (arith, none-some)
 
-later_by : (text : List ℕ) (r : PassState) (at b : ℕ) (o : Option ℕ) → r.begin_list_item ≡ o → at ≤ b → b ≤ length text → IsOrderedTo text r.tree (reached o at)
-    → reached o at ≤ at → IsOrderedTo text r.tree (reached o b) × (reached o b ≤ b)
-later_by text r at b None is later within h order = (let here : b ≤ b = omega arith in (ordered_later text r.tree at b later within h, here))
-later_by text r at b (Some e) is later within h order = (let here : e ≤ b = omega arith in (h, here))
+later_by : (text : List ℕ) (f : Forest Item) (at b : ℕ) (o : Option ℕ) → at ≤ b → b ≤ length text → IsOrderedTo text f (reached o at)
+    → reached o at ≤ at → IsOrderedTo text f (reached o b) × (reached o b ≤ b)
+later_by text f at b None later within h order = (ordered_later text f at b later within h, omega arith)
+later_by text f at b (Some e) later within h order = (h, omega arith)
 
 -- up to a later offset, whether an item is empty or not
 pub ordered_at_later : (text : List ℕ) (r : PassState) (at b : ℕ) → at ≤ b → b ≤ length text → IsOrderedAt text r at → IsOrderedAt text r b
 ordered_at_later text r at b later within h =
-    let l = later_by text r at b r.begin_list_item refl later within h.ordered h.later in
+    let l = later_by text r.tree at b r.begin_list_item later within h.ordered h.later in
     record { ordered = l.0; later = l.1; within = within; innermost = h.innermost }
 
 -- the flags of a body that its extent has
@@ -246,9 +210,7 @@ flags_of b = (is_text_block b, is_task_marker b, is_list_item b, is_definition_l
 -- another body at a place, with the same flags
 pub list_extent : (x : Item) (a b : ItemBody) → x.body ≡ a → flags_of a ≡ flags_of b
     → extent_of (record { start = x.start; «end» = x.«end»; body = b }) ≡ extent_of x
-list_extent x a b is same =
-    ap (λ (z : Bool × Bool × Bool × Bool).
-    record { start = x.start; «end» = x.«end»; text_block = z.0; marker = z.1; item = z.2; definitions = z.3 }) (sym same ∙ ap flags_of (sym is))
+list_extent x a b is same = grind arith
 
 -- a change at a place that changes each extent alike
 pub extents-changed : (nodes : List (ℕ × Item)) (k : ℕ) (g : Item → Item) (h : Ranged → Ranged) → ((x : Item) → extent_of (g x) ≡ h (extent_of x))

@@ -1,27 +1,21 @@
 -- Closing the state's nodes keeps order where lists and items end, and so does noting blank lines.
-use Rattle.std.proofs.Common.{◌≡◌, ◌⊎◌, inl, inr, ℕ, ◌≤◌, true, false, List, [], ◌∷◌, length, Option, Some, None, IsCharBoundary, refl, sym, ap, subst, ◌∙◌}
-use Rattle.std.proofs.Common.{arith}
-use Rattle.first_pass_grammar.proofs.Common.{cond_both, ItemBody, Paragraph, TreeIndex, with_body_at, body_at, IsOrderedTo, CowIndex, body-kept}
+use Rattle.std.proofs.Common.{◌≡◌, ◌⊎◌, inl, inr, ℕ, ◌≤◌, true, List, [], ◌∷◌, length, Option, Some, None, IsCharBoundary, refl, sym, subst, ◌∙◌, arith}
+use Rattle.first_pass_grammar.proofs.Common.{cond_both, ItemBody, Paragraph, TreeIndex, with_body_at, IsOrderedTo, CowIndex, body-kept}
 use Rattle.first_pass_items.specs.declared.item.ItemBody.TheVariants.{ListItem as ListItemBody}
-use Rattle.first_pass_open.specs.OpenBlock.{closed_by}
-use Rattle.first_pass_lists.specs.Closing.{with_tree, top_body, is_list, is_item, popped_at, top_end, popped, empty_item_closed, gap_tree, list_finished}
+use Rattle.first_pass_lists.specs.Closing.{with_tree, top_body, is_list, is_item, popped_at, top_end, popped, empty_item_closed, list_finished}
 use Rattle.first_pass_lists.specs.Closing.{list_continued, blank_read_by, blank_read, gap_marked, footnote_begun}
 use Rattle.first_pass_lists.specs.declared.state.PassState.{PassState}
 use Rattle.first_pass_order.specs.Ordered.{top_of, reached, IsOrderedAt, EndsBeforeTitle, CanClose, IsReadTo}
 use Rattle.first_pass_order.proofs.AlikeNodes.{like_blank}
-use Rattle.first_pass_order.proofs.Nests.{title_no_item, item_settled, popped_both, popped_settled, popped_nested, finished_both, like_nested}
-use Rattle.first_pass_order.proofs.Nests.{blank_both, blank_item, settled_closes, outside_closes}
-use Rattle.first_pass_order.proofs.Nests.{list_finished_outside, list_continued_settled, footnote_begun_settled}
+use Rattle.first_pass_order.proofs.Nests.{title_no_item, item_settled, popped_both, popped_settled, popped_nested, finished_both, like_nested, blank_both}
+use Rattle.first_pass_order.proofs.Nests.{blank_item, settled_closes, outside_closes, list_finished_outside, list_continued_settled, footnote_begun_settled}
 use Rattle.first_pass_order.proofs.LeftOrder.{title_later, order_kept, ordered_at, ordered_before, may_leave}
-use Rattle.first_pass_order.proofs.PropertyKept.{popped_here, empty_item_closed_keeps, blank_keeps}
+use Rattle.first_pass_order.proofs.PropertyKept.{popped_here, empty_item_closed_keeps, list_finished_keeps, list_continued_keeps, note_keeps}
 use Rattle.first_pass_lists.proofs.NoEmptyItem.{finished_none, popped_at_none, closed_none, list_finished_none, list_continued_none}
-use Rattle.first_pass_order.proofs.PropertyKept.{list_finished_keeps, list_continued_keeps, note_keeps}
 use Rattle.first_pass_order.proofs.OrderLemmas.{ordered_none, ordered_at_later, popped_empty}
 
 pub noted_empty : (r : PassState) → (gap_marked r).begin_list_item ≡ r.begin_list_item
-noted_empty r =
-    cond_both r.blank (record r { tree = gap_tree r.tree r.tree.spine; blank = false }) r (λ (q : PassState). q.begin_list_item ≡ r.begin_list_item)
-    (λ b. refl) (λ b. refl)
+noted_empty r = grind (arith, cond_both)
 
 empty_by : (text : List ℕ) (r : PassState) (at : ℕ) (o : Option ℕ)
     → r.begin_list_item ≡ o → IsOrderedAt text r at → (r.begin_list_item ≡ None) ⊎ (is_item (top_body r.tree) ≡ true)
@@ -30,9 +24,7 @@ empty_by text r at (Some e) is h = inr (h.innermost e is).0
 
 item_closed : (e : ℕ) (r : PassState) (s : List TreeIndex) → is_item (top_of r.tree.nodes s) ≡ true → (popped_at e r s).begin_list_item ≡ None
 item_closed e r [] item = cc
-item_closed e r (ix ∷ rest) item =
-    let same = body-kept r.tree.nodes ix.0 ix.0 (λ x. record { start = x.start; «end» = e; body = x.body }) (λ x. refl) in
-    popped_empty r (closed_by r.tree e (ix ∷ rest)) ix (body_at (closed_by r.tree e (ix ∷ rest)).nodes ix.0) (ap is_item same ∙ item)
+item_closed e r (ix ∷ rest) item = grind (arith, body-kept, popped_empty)
 
 closes_empty : (e : ℕ) (r : PassState) → (r.begin_list_item ≡ None) ⊎ (is_item (top_body r.tree) ≡ true) → (popped e r).begin_list_item ≡ None
 closes_empty e r (inl none) =
@@ -45,27 +37,23 @@ closes_empty e r (inr item) =
 pub ordered_list_finished : (text : List ℕ) (r : PassState) (at e b : ℕ) → EndsBeforeTitle text r.tree at → at ≤ b → e ≤ b → b ≤ length text
     → IsCharBoundary text e → (is_list (top_body (empty_item_closed r).tree) ≡ true → at ≤ e) → IsOrderedAt text r at → IsOrderedAt text (list_finished e r) b
 ordered_list_finished text r at e b closes later short within ends order h =
-    let e_within : e ≤ length text = omega arith in
     ordered_none text (list_finished e r) b (list_finished_none e r) within
     (list_finished_keeps (order_kept text) at e b 0 r (ordered_before text r at h closes)
-    (record { closes = λ t. (order t, e_within); ends = ends; short = (short, within); later = (later, within) }))
+    ((λ t. (order t, omega arith)), ends, (short, within), (later, within)))
 
 -- a footnote definition is opened where the innermost open nodes end
 pub ordered_note : (text : List ℕ) (r : PassState) (at start : ℕ) (index : CowIndex) → EndsBeforeTitle text r.tree at → at ≤ start → start ≤ length text
     → IsCharBoundary text start → IsOrderedAt text r at → IsOrderedTo text (footnote_begun start index r).tree start
 ordered_note text r at start index closes later within starts h =
-    let there : start ≤ start = omega arith in
-    note_keeps (order_kept text) at start 0 index r (ordered_before text r at h closes) (later, within) (there, within) starts tt
+    note_keeps (order_kept text) at start 0 index r (ordered_before text r at h closes) (later, within) (omega arith, within) starts tt
 
 -- a list that continues, or a new one
 pub ordered_list_continued : (text : List ℕ) (r : PassState) (at start byte number : ℕ) → EndsBeforeTitle text r.tree at
     → at ≤ start → start ≤ length text → IsCharBoundary text start → IsOrderedAt text r at → IsOrderedAt text (list_continued start byte number r) start
 ordered_list_continued text r at start byte number closes later within starts h =
-    let here : at ≤ at = omega arith in
-    let there : start ≤ start = omega arith in
     ordered_none text (list_continued start byte number r) start (list_continued_none start byte number r) within
     (list_continued_keeps (order_kept text) at start byte number 0 r (ordered_before text r at h closes)
-    (record { here = (here, h.within); goes = (later, within); there = (there, within); starts = starts }) tt)
+    ((omega arith, h.within), (later, within), (omega arith, within), starts) tt)
 
 -- a blank line is read
 blank_by_empty : (r : PassState) (b : Option ItemBody) → (blank_read_by r b).begin_list_item ≡ r.begin_list_item
@@ -78,13 +66,11 @@ blank_empty r = blank_by_empty r (top_body r.tree)
 
 pub read_blank_read : (text : List ℕ) (r : PassState) (at b : ℕ) → at ≤ b → b ≤ length text → IsReadTo text r at → IsReadTo text (blank_read r) b
 read_blank_read text r at b later within (o, c) =
-    let same : (blank_read r).begin_list_item ≡ r.begin_list_item = blank_empty r in
-    let reach : reached (blank_read r).begin_list_item at ≡ reached r.begin_list_item at = ap (λ o. reached o at) same in
-    let low : reached r.begin_list_item at ≤ at = o.later in (
+    let same = blank_empty r in (
       ordered_at_later text (blank_read r) at b later within
           (record {
-            ordered = subst (IsOrderedTo text (blank_read r).tree) (sym reach) (blank_keeps (order_kept text) (reached r.begin_list_item at) 0 r o.ordered);
-            later = omega arith;
+            ordered = rw same ((order_kept text).like (reached r.begin_list_item at) 0 r.tree _ (like_blank r) o.ordered);
+            later = rw same o.later;
             within = o.within;
             innermost = λ e is. (let inner = o.innermost e (sym same ∙ is) in (blank_item r ∙ inner.0, inner.1));
           }),
@@ -124,9 +110,8 @@ finish_item_keeps_order text r q at is h = subst (λ (s : PassState). IsReadTo t
 pub finish_list_keeps_order : (text : List ℕ) (r q : PassState) (at e : ℕ) → q ≡ list_finished e r → at ≤ e → e ≤ length text → IsCharBoundary text e
     → IsReadTo text r at → IsReadTo text q e
 finish_list_keeps_order text r q at e is later within ends (o, c) =
-    let here : e ≤ e = omega arith in
     subst (λ (s : PassState). IsReadTo text s e) (sym is) (
-      ordered_list_finished text r at e e c.title later here within ends (λ list. later) o,
+      ordered_list_finished text r at e e c.title later (omega arith) within ends (λ list. later) o,
       outside_closes text (list_finished e r) e (list_finished_outside e r c.nested),
     )
 

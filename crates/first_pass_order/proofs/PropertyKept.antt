@@ -1,22 +1,20 @@
 -- The effect of a step on the tree, proved once for each property that is kept.
-use Rattle.std.proofs.Common.{◌≡◌, ℕ, suc, ◌<◌, ◌≤◌, arith, Bool, true, false, if◌then◌else◌, List, [], ◌∷◌, length, slice_get, Option, Some, None, refl}
-use Rattle.std.proofs.Common.{sym, ap, subst, ◌∙◌, option_and_then}
+use Rattle.std.proofs.Common.{◌≡◌, ℕ, suc, ◌<◌, ◌≤◌, arith, Bool, true, false, if◌then◌else◌, List, [], ◌∷◌, length, slice_get, Option, Some, None, refl, sym}
+use Rattle.std.proofs.Common.{ap, subst, ◌∙◌, option_and_then}
 use Rattle.first_pass_grammar.proofs.Common.{cond_both, none-some, slice_get_within, CowIndex, Item, ItemBody, Paragraph, DefinitionListDefinition}
 use Rattle.first_pass_grammar.proofs.Common.{MaybeDefinitionListTitle, some_mapped, TreeIndex, Forest, IsForest, modify, with_body_at, body_at, map_from}
 use Rattle.first_pass_grammar.proofs.Common.{shallower, moved_from, modified-is, list_flags}
 use Rattle.first_pass_items.specs.declared.item.ItemBody.TheVariants.{List as ListBody, ListItem as ListItemBody}
 use Rattle.first_pass_items.specs.declared.item.ItemBody.TheVariants.{FootnoteDefinition as FootnoteDefinitionBody}
 use Rattle.first_pass_open.specs.OpenBlock.{closed_by, opened_block}
-use Rattle.first_pass_lists.specs.Closing.{with_tree, top_body, is_list, is_list_of, is_item, is_footnote, is_definition_list, popped_at}
-use Rattle.first_pass_lists.specs.Closing.{current_moved, definitions_closed}
-use Rattle.first_pass_lists.specs.Closing.{top_end, possible_title, title_closed, popped, empty_item_closed, list_closed, gap_marked}
-use Rattle.first_pass_lists.specs.Closing.{list_finished, list_kept, begun, list_continued, footnote_left, footnote_begun, blank_read, definitions_opened}
-use Rattle.first_pass_lists.specs.Closing.{definition_begun}
+use Rattle.first_pass_lists.specs.Closing.{with_tree, top_body, is_list, is_list_of, is_item, is_footnote, is_definition_list, popped_at, definitions_closed}
+use Rattle.first_pass_lists.specs.Closing.{top_end, possible_title, title_closed, popped, empty_item_closed, list_closed, gap_marked, list_finished}
+use Rattle.first_pass_lists.specs.Closing.{list_kept, begun, list_continued, footnote_left, footnote_begun, definitions_opened, definition_begun}
 use Rattle.first_pass_lists.specs.declared.state.PassState.{PassState}
 use Rattle.first_pass_lists.proofs.MovedLemmas.{closed_current}
 use Rattle.first_pass_order.specs.Ordered.{reached}
 use Rattle.first_pass_order.proofs.Nests.{TitleThere, title_there, title_no_item, note_untitled, popped_both, popped_item, finished_both}
-use Rattle.first_pass_order.proofs.AlikeNodes.{AreAlike, alike_ended, alike_both, LooksAlike, like_body, like_popped, like_noted, like_kept, like_blank}
+use Rattle.first_pass_order.proofs.AlikeNodes.{AreAlike, alike_ended, alike_both, LooksAlike, like_body, like_popped, like_noted, like_kept}
 use Rattle.first_pass_lists.proofs.NoEmptyItem.{finished_none}
 
 -- The innermost open node is closed at an offset, and its last child, the current node, is moved out of it.
@@ -65,8 +63,7 @@ body_inside nodes k b is = (let there = some_mapped (λ (n : ℕ × Item). n.1.b
 closed_parts : (q : PassState) (e : ℕ) (s : List TreeIndex) (c : TreeIndex) → q.tree.spine ≡ s → q.tree.current ≡ Some c
     → (definitions_closed e q).tree ≡ moved_from (popped_at e q s).tree c.0
 unfolding definitions_closed
-closed_parts q e s c spine current =
-    ap (λ z. (current_moved (popped_at e q z) q.tree.current).tree) spine ∙ ap (λ z. (current_moved (popped_at e q s) z).tree) current
+closed_parts q e s c spine current = grind arith
 
 pub is_left : (f : Forest Item) (r : PassState) (e : ℕ) (c ix : TreeIndex) (rest : List TreeIndex) → LooksAlike f r.tree → f.spine ≡ ix ∷ rest
     → f.current ≡ Some c → c.0 ≤ length f.nodes → (IsForest f → IsForest r.tree) → IsLeft f (definitions_closed e r).tree e c
@@ -145,14 +142,15 @@ module _ (p : Property) where
 
   empty_item_closed_before : (a k : ℕ) (r : PassState) → p.Goes a a → HoldsBefore a k r → HoldsBefore a k (empty_item_closed r)
   empty_item_closed_before a k r here h =
-      let s : PassState = empty_item_closed r in
       let none = finished_none r in
-      let now : HoldsAt a k s = record {
-        holds = subst (λ o. p.Holds (reached o a) k s.tree) (sym none) (empty_item_closed_keeps a k r h.held);
-        goes = subst (λ o. p.Goes (reached o a) a) (sym none) here;
-        marked = λ e is. absurd (none-some e (sym none ∙ is));
-      } in
-      record { held = now; leaves = empty_item_closed_leaves a r h.leaves }
+      record {
+        held = record {
+          holds = rw none (empty_item_closed_keeps a k r h.held);
+          goes = rw none here;
+          marked = λ e is. absurd (none-some e (sym none ∙ is));
+        };
+        leaves = empty_item_closed_leaves a r h.leaves;
+      }
 
   -- the innermost open node is closed, an empty item if there is one
   popped_with : (b e k : ℕ) (r : PassState) (o : Option ℕ) → ((x : ℕ) → o ≡ Some x → is_item (top_body r.tree) ≡ true) → MayLeave b r.tree
@@ -164,15 +162,12 @@ module _ (p : Property) where
       → p.Goes (reached r.begin_list_item b) e → p.Bounds e → p.Holds e k (popped e r).tree
   popped_here b e k r h leaves item goes ends = popped_with b e k r r.begin_list_item item leaves goes ends h.holds
 
-  -- a blank line is noted, a list continues, or a blank line is read
+  -- a blank line is noted, or a list continues
   pub noted_keeps : (a k : ℕ) (r : PassState) → p.Holds a k r.tree → p.Holds a k (gap_marked r).tree
   noted_keeps a k r h = p.like a k r.tree (gap_marked r).tree (like_noted r) h
 
   pub kept_keeps : (a k : ℕ) (r : PassState) → p.Holds a k r.tree → p.Holds a k (list_kept r).tree
   kept_keeps a k r h = p.like a k r.tree (list_kept r).tree (like_kept r) h
-
-  pub blank_keeps : (a k : ℕ) (r : PassState) → p.Holds a k r.tree → p.Holds a k (blank_read r).tree
-  blank_keeps a k r h = p.like a k r.tree (blank_read r).tree (like_blank r) h
 
   -- an innermost list or footnote definition is closed
   left_by : (a e b k : ℕ) (r : PassState) (t : Bool) → (t ≡ true → MayLeave a r.tree × p.Goes a e) → p.Bounds e → p.Goes e b → p.Goes a b
@@ -181,52 +176,44 @@ module _ (p : Property) where
   left_by a e b k r false may ends short goes h = p.later a b k r.tree goes h
 
   -- Reading moves from one offset to another, past the end of an innermost list.
-  pub record PassesList (a e b : ℕ) (r : PassState) : Type 0 where
-    pub closes : is_list (top_body (empty_item_closed r).tree) ≡ true → p.Goes a e
-    pub ends : p.Bounds e
-    pub short : p.Goes e b
-    pub later : p.Goes a b
+  abbrev pub PassesList : (a e b : ℕ) (r : PassState) → Type 0
+  PassesList a e b r = (is_list (top_body (empty_item_closed r).tree) ≡ true → p.Goes a e) × p.Bounds e × p.Goes e b × p.Goes a b
 
   -- Reading moves from an offset to the start of a node, where a list may end.
-  pub record GoesToItem (a start : ℕ) : Type 0 where
-    pub here : p.Goes a a
-    pub goes : p.Goes a start
-    pub there : p.Goes start start
-    pub starts : p.Bounds start
+  abbrev pub GoesToItem : (a start : ℕ) → Type 0
+  GoesToItem a start = p.Goes a a × p.Goes a start × p.Goes start start × p.Bounds start
 
   -- before a block that ends a list
   pub list_finished_keeps : (a e b k : ℕ) (r : PassState) → HoldsBefore a k r → PassesList a e b r → p.Holds b k (list_finished e r).tree
   unfolding list_finished
-  list_finished_keeps a e b k r h g =
+  list_finished_keeps a e b k r h (closes, ends, short, later) =
       let q : PassState = empty_item_closed r in
       noted_keeps b k (list_closed e q)
-      (left_by a e b k q (is_list (top_body q.tree)) (λ t. (empty_item_closed_leaves a r h.leaves, g.closes t)) g.ends g.short g.later
+      (left_by a e b k q (is_list (top_body q.tree)) (λ t. (empty_item_closed_leaves a r h.leaves, closes t)) ends short later
       (empty_item_closed_keeps a k r h.held))
 
   -- a container is opened there
   pub quote_keeps : (a e b start k : ℕ) (body : ItemBody) (r : PassState) → HoldsBefore a k r → PassesList a e b r → p.Goes b start → p.Bounds start
       → p.Opens body → p.Holds start (suc k) (begun start body (list_finished e r)).tree
-  quote_keeps a e b start k body r h g goes starts opens =
-      p.opened b start k (list_finished e r).tree body goes starts opens (list_finished_keeps a e b k r h g)
+  quote_keeps a e b start k body r h g goes starts opens = grind (arith, list_finished_keeps)
 
   -- an item is opened, in the list that continues or in a new one
   pub list_continued_keeps : (a start byte number k : ℕ) (r : PassState) → HoldsBefore a k r → GoesToItem a start
       → p.Opens (ListBody (list_flags true) byte number) → p.Holds start (suc k) (list_continued start byte number r).tree
   unfolding list_continued
-  list_continued_keeps a start byte number k r h g lists =
+  list_continued_keeps a start byte number k r h (here, goes, there, starts) lists =
       let s : PassState = empty_item_closed r in
       let list : ItemBody = ListBody (list_flags true) byte number in
       cond_both (is_list_of byte (top_body s.tree)) (list_kept s) (begun start list (list_finished start s)) (λ (q : PassState). p.Holds start (suc k) q.tree)
-      (λ b. p.later a start (suc k) (list_kept s).tree g.goes (kept_keeps a (suc k) s (p.more a k s.tree (empty_item_closed_keeps a k r h.held))))
-      (λ b. quote_keeps a start start start k list s (empty_item_closed_before a k r g.here h)
-      (record { closes = λ t. g.goes; ends = g.starts; short = g.there; later = g.goes }) g.there g.starts lists)
+      (λ b. p.later a start (suc k) (list_kept s).tree goes (kept_keeps a (suc k) s (p.more a k s.tree (empty_item_closed_keeps a k r h.held))))
+      (λ b. quote_keeps a start start start k list s (empty_item_closed_before a k r here h) ((λ t. goes), starts, there, goes) there starts lists)
 
   pub item_keeps : (a start byte number columns k : ℕ) (r : PassState) → HoldsBefore a k r → GoesToItem a start
       → p.Opens (ListBody (list_flags true) byte number) → p.Opens (ListItemBody columns)
       → p.Holds start (suc (suc k)) (begun start (ListItemBody columns) (list_continued start byte number r)).tree
-  item_keeps a start byte number columns k r h g lists opens =
-      p.opened start start (suc k) (list_continued start byte number r).tree (ListItemBody columns) g.there g.starts opens
-      (list_continued_keeps a start byte number k r h g lists)
+  item_keeps a start byte number columns k r h (here, goes, there, starts) lists opens =
+      p.opened start start (suc k) (list_continued start byte number r).tree (ListItemBody columns) there starts opens
+      (list_continued_keeps a start byte number k r h (here, goes, there, starts) lists)
 
   -- a footnote definition is opened
   pub note_keeps : (a start k : ℕ) (index : CowIndex) (r : PassState) → HoldsBefore a k r → p.Goes a start → p.Goes start start → p.Bounds start

@@ -1,15 +1,15 @@
 -- A row of siblings split at its last node: that node, the end of the row, and the row with a definition list in
 -- place of a paragraph.
 use Rattle.std.proofs.Common.{◌≡◌, ◌⊎◌, inl, inr, ℕ, zero, suc, ◌+◌, ◌-◌, ◌<◌, ◌≤◌, Bool, true, false, List, [], ◌∷◌, ◌++◌, length, map, slice_index}
-use Rattle.std.proofs.Common.{slice_get, Some, IfSome, take, drop, IsCharBoundary, refl, sym, ap, subst, ◌∙◌, arith, if◌then◌else◌, All, option_map}
-use Rattle.first_pass_grammar.proofs.Common.{map-append, All-nil, All-cons, All-append, All-map, same_Some, take-append_seam, drop-append_seam, Item}
-use Rattle.first_pass_grammar.proofs.Common.{TreeIndex, Forest, IsForest, IsLastAt, depths, item_at, deeper, shallower, map_from, Ranged, extent_of}
-use Rattle.first_pass_grammar.proofs.Common.{extents, Siblings, Empty, laid, IsBetween, Within, Elsewhere, InItem, InText, InFirst, below, beyond, IsLead}
-use Rattle.first_pass_grammar.proofs.Common.{Fits, laid_open, open_within, FitsOpen, IsOrderedTo}
-use Rattle.std.proofs.lemmas.List.{take-map, drop-map}
+use Rattle.std.proofs.Common.{slice_get, Some, take, drop, IsCharBoundary, refl, sym, ap, subst, ◌∙◌, arith, if◌then◌else◌, All, option_map, length-append}
+use Rattle.first_pass_grammar.proofs.Common.{same_Some, map-append, All-nil, All-cons, All-append, All-map, take-append_seam, drop-append_seam, Item}
+use Rattle.first_pass_grammar.proofs.Common.{TreeIndex, Forest, IsForest, IsLastAt, depths, item_at, deeper, shallower, map_from, Ranged, extent_of, extents}
+use Rattle.first_pass_grammar.proofs.Common.{Siblings, Empty, laid, Within, Elsewhere, InItem, InText, InFirst, below, beyond, IsLead, Fits, laid_open}
+use Rattle.first_pass_grammar.proofs.Common.{open_within, FitsOpen, IsOrderedTo}
+use Rattle.std.proofs.lemmas.List.{take-map, drop-map, length-map}
 use Rattle.std.proofs.lemmas.List.Elements.{All-weaker}
 use Rattle.first_pass_grammar.specs.Order.{Node}
-use Rattle.first_pass_grammar.proofs.Order.Orders.{beside, ended_at, laid_open-beside, length-places, fits-order, fits-later, fits-beside, below_ended}
+use Rattle.first_pass_grammar.proofs.Order.Orders.{beside, ended_at, laid_open-beside, length-places, fits-order, fits-later, below_ended}
 use Rattle.first_pass_order.proofs.OrderLemmas.{node_there}
 
 -- a row's last node with its descendants, and the nodes before it
@@ -28,110 +28,51 @@ no_lead : (text : List ℕ) (w : Within) (from : ℕ) (x : Ranged) → x.marker 
 no_lead text (InText before) from x plain h = (let z : true ≡ false = sym h.0 ∙ plain in cc)
 no_lead text w from x plain h = h
 
--- The last node of a row is the only one, or a further one.
-abbrev StandsIn : Siblings → ℕ → ℕ → Within → Within → Type 0
-StandsIn before mid from w v = ((before ≡ Empty) × (mid ≡ from) × (v ≡ w)) ⊎ (v ≡ beyond w)
+-- A node ends at a character boundary, before an offset. If it ends later, something holds up to that end.
+abbrev MayEndLater : List ℕ → ℕ → Ranged → (ℕ → Ranged → Type 0) → Type 0
+MayEndLater text to x P = (x.«end» ≤ to) × IsCharBoundary text x.«end» × ((e : ℕ) → x.«end» ≤ e → IsCharBoundary text e → P e (ended_at x e))
 
--- The nodes before a row's last fit up to an offset, and the last fits after that, either as the only one of the row
--- or as a further one.
-pub record FitsApart (text : List ℕ) (w : Within) (from to : ℕ) (before : Siblings) (x : Ranged) (kids : Siblings) : Type 0 where
-  pub mid : ℕ
-  pub front : Fits text w from mid before
-  pub between : IsBetween text mid to x
-  pub stands : Within
-  pub which : StandsIn before mid from w stands
-  pub inside : Fits text (below stands mid x) x.start x.«end» kids
-
-beyond_twice : (before : Siblings) (mid from : ℕ) (w v : Within) → StandsIn before mid from (beyond w) v → v ≡ beyond w
-beyond_twice before mid from w v (inl (none, at, e)) = e
-beyond_twice before mid from Elsewhere v (inr e) = e
-beyond_twice before mid from InItem v (inr e) = e
-beyond_twice before mid from (InText at) v (inr e) = e
-beyond_twice before mid from (InFirst at) v (inr e) = e
-
-lead_beyond : (text : List ℕ) (w : Within) (at : ℕ) (y : Ranged) (before : Siblings) (mid from : ℕ) (v : Within) → IsLead text w at y
-    → StandsIn before mid from Elsewhere v → v ≡ beyond w
-lead_beyond text (InText at) here y before mid from v l (inl (none, start, e)) = e
-lead_beyond text (InText at) here y before mid from v l (inr e) = e
-lead_beyond text w here y before mid from v l h = absurd l
-
-pub fits_apart : (text : List ℕ) (w : Within) (from to : ℕ) (before : Siblings) (x : Ranged) (kids : Siblings) → x.marker ≡ false
-    → Fits text w from to (beside before (Node x kids Empty)) → FitsApart text w from to before x kids
+-- a row also fits if its last node ends later
+last_fits : (text : List ℕ) (w : Within) (from to : ℕ) (before : Siblings) (x : Ranged) (kids : Siblings) → x.marker ≡ false
+    → Fits text w from to (beside before (Node x kids Empty)) → MayEndLater text to x (λ e y. Fits text w from e (beside before (Node y kids Empty)))
 unfolding Fits
-fits_apart text w from to Empty x kids plain (inl (between, inside, room)) =
-    record { mid = from; front = omega arith; between = between; stands = w; which = inl (refl, refl, refl); inside = inside }
-fits_apart text w from to Empty x kids plain (inr (first, inside, room)) = absurd (no_lead text w from x plain first)
-fits_apart text w from to (Node y more before) x kids plain (inl (between, inside, rest)) =
-    let r = fits_apart text (beyond w) y.«end» to before x kids plain rest in
-    let room : y.«end» ≤ r.mid = fits-order text (beyond w) y.«end» r.mid before r.front in
-    record {
-      mid = r.mid;
-      front = inl (
-        record { following = between.following; order = between.order; before = room; starts = between.starts; ends = between.ends },
-        inside,
-        r.front,
-      );
-      between = r.between;
-      stands = r.stands;
-      which = inr (beyond_twice before r.mid y.«end» w r.stands r.which);
-      inside = r.inside;
-    }
-fits_apart text w from to (Node y more before) x kids plain (inr (first, inside, rest)) =
-    let r = fits_apart text Elsewhere from to before x kids plain rest in
-    record {
-      mid = r.mid;
-      front = inr (first, inside, r.front);
-      between = r.between;
-      stands = r.stands;
-      which = inr (lead_beyond text w from y before r.mid from r.stands first r.which);
-      inside = r.inside;
-    }
+last_fits text w from to Empty x kids plain (inl (b, inside, room)) = (
+  b.before,
+  b.ends,
+  λ e later ends. inl (
+    record { following = b.following; order = (let o : x.start ≤ x.«end» = b.order in omega arith); before = omega arith; starts = b.starts; ends = ends },
+    subst (λ v. Fits text v x.start e kids) (sym (below_ended w from x e)) (fits-later text (below w from x) x.start x.«end» e kids later inside),
+    omega arith,
+  ),
+)
+last_fits text w from to Empty x kids plain (inr (first, inside, room)) = absurd (no_lead text w from x plain first)
+last_fits text w from to (Node y more before) x kids plain (inl (b, inside, rest)) =
+    let (room, ends, longer) = last_fits text (beyond w) y.«end» to before x kids plain rest in (
+      room,
+      ends,
+      λ e later e_ends.
+          let next = longer e later e_ends in
+          let y_room = fits-order text (beyond w) y.«end» e (beside before (Node (ended_at x e) kids Empty)) next in
+          inl (record { following = b.following; order = b.order; before = y_room; starts = b.starts; ends = b.ends }, inside, next),
+    )
+last_fits text w from to (Node y more before) x kids plain (inr (first, inside, rest)) =
+    let (room, ends, longer) = last_fits text Elsewhere from to before x kids plain rest in
+    (room, ends, λ e later e_ends. inr (first, inside, longer e later e_ends))
 
--- a row whose last node ends later
-pub fits_last : (text : List ℕ) (w : Within) (from to e : ℕ) (before : Siblings) (x : Ranged) (kids : Siblings) → x.marker ≡ false → x.«end» ≤ e
-    → IsCharBoundary text e → Fits text w from to (beside before (Node x kids Empty)) → Fits text w from e (beside before (Node (ended_at x e) kids Empty))
-unfolding Fits
-fits_last text w from to e before x kids plain later b h =
-    let r = fits_apart text w from to before x kids plain h in
-    let o : x.start ≤ x.«end» = r.between.order in
-    let row : Siblings = Node (ended_at x e) kids Empty in
-    let last : Fits text r.stands r.mid e row = inl (
-      record { following = r.between.following; order = omega arith; before = omega arith; starts = r.between.starts; ends = b },
-      subst (λ v. Fits text v x.start e kids) (sym (below_ended r.stands r.mid x e))
-          (fits-later text (below r.stands r.mid x) x.start x.«end» e kids later r.inside),
-      omega arith,
-    ) in
-    elim r.which [
-      | inl (none, at, is) ↦
-          subst (λ s. Fits text w from e (beside s row)) (sym none)
-          (subst (λ m. Fits text w m e row) at (subst (λ v. Fits text v r.mid e row) is last))
-      | inr is ↦ fits-beside text w from r.mid e before row r.front (subst (λ v. Fits text v r.mid e row) is last)
-    ]
+-- the same in a tree with open nodes
+pub open_last_fits : (text : List ℕ) (to : ℕ) (levels : List (Siblings × Ranged)) (before : Siblings) (x : Ranged) (kids : Siblings) → x.marker ≡ false
+    → FitsOpen text to levels (beside before (Node x kids Empty))
+    → MayEndLater text to x (λ e y. FitsOpen text e levels (beside before (Node y kids Empty)))
+unfolding FitsOpen
+open_last_fits text to [] before x kids plain h = last_fits text Elsewhere 0 to before x kids plain h
+open_last_fits text to (level ∷ levels) before x kids plain (from, low, h, starts, rest) =
+    let (room, ends, longer) = last_fits text (below (open_within levels) from level.1) level.1.start to before x kids plain h in
+    (room, ends, λ e later e_ends. (from, low, longer e later e_ends, starts, rest))
 
 pub fits_open_last : (text : List ℕ) (to e : ℕ) (levels : List (Siblings × Ranged)) (before : Siblings) (x : Ranged) (kids : Siblings)
     → x.marker ≡ false → x.«end» ≤ e → IsCharBoundary text e
     → FitsOpen text to levels (beside before (Node x kids Empty)) → FitsOpen text e levels (beside before (Node (ended_at x e) kids Empty))
-unfolding FitsOpen
-fits_open_last text to e [] before x kids plain later b h = fits_last text Elsewhere 0 to e before x kids plain later b h
-fits_open_last text to e (level ∷ levels) before x kids plain later b (from, low, h, starts, rest) =
-    (from, low, fits_last text (below (open_within levels) from level.1) level.1.start to e before x kids plain later b h, starts, rest)
-
--- a row fits up to the end of its last node
-pub fits_ends : (text : List ℕ) (w : Within) (from to : ℕ) (before : Siblings) (x : Ranged) (kids : Siblings) → x.marker ≡ false
-    → Fits text w from to (beside before (Node x kids Empty))
-    → Fits text w from x.«end» (beside before (Node x kids Empty)) × (x.«end» ≤ to) × IsCharBoundary text x.«end»
-fits_ends text w from to before x kids plain h =
-    let r = fits_apart text w from to before x kids plain h in
-    (fits_last text w from to x.«end» before x kids plain (omega arith) r.between.ends h, r.between.before, r.between.ends)
-
-pub fits_open_ends : (text : List ℕ) (to : ℕ) (levels : List (Siblings × Ranged)) (before : Siblings) (x : Ranged) (kids : Siblings) → x.marker ≡ false
-    → FitsOpen text to levels (beside before (Node x kids Empty))
-    → FitsOpen text x.«end» levels (beside before (Node x kids Empty)) × (x.«end» ≤ to) × IsCharBoundary text x.«end»
-unfolding FitsOpen
-fits_open_ends text to [] before x kids plain h = fits_ends text Elsewhere 0 to before x kids plain h
-fits_open_ends text to (level ∷ levels) before x kids plain (from, low, h, starts, rest) =
-    let e = fits_ends text (below (open_within levels) from level.1) level.1.start to before x kids plain h in
-    ((from, low, e.0, starts, rest), e.1, e.2)
+fits_open_last text to e levels before x kids plain later ends h = (open_last_fits text to levels before x kids plain h).2 e later ends
 
 -- a definition list in place of a paragraph
 abbrev pub as_list : Ranged → Ranged
@@ -142,93 +83,80 @@ abbrev pub open_definitions : List (Siblings × Ranged) → Bool
 open_definitions [] = false
 open_definitions (level ∷ levels) = level.1.definitions
 
--- the place is directly in a node that is neither an item nor a definition list
-abbrev IsPlainWithin : Within → Type 0
-IsPlainWithin v = (v ≡ Elsewhere) ⊎ ((at : ℕ) × (v ≡ InText at))
+-- directly in an item, or in a node that is neither an item nor a definition list
+abbrev IsAround : Bool → Within → Type 0
+IsAround item InItem = item ≡ true
+IsAround item (InFirst at) = ⊥
+IsAround item w = item ≡ false
 
-plain_below : (w : Within) (mid : ℕ) (x : Ranged) → x.item ≡ false → IsPlainWithin w → below w mid x ≡ Elsewhere
-plain_below w mid x other (inl e) = ap (λ v. below v mid x) e ∙ ap (λ (i : Bool). if i then InItem else Elsewhere) other
-plain_below w mid x other (inr (at, e)) = ap (λ v. below v mid x) e ∙ ap (λ (i : Bool). if i then InItem else Elsewhere) other
+around_beyond : (item : Bool) (w : Within) → IsAround item w → IsAround item (beyond w)
+around_beyond item (InFirst at) h = absurd h
+around_beyond item w h = h
 
-which_plain : (before : Siblings) (mid from : ℕ) (w v : Within) → IsPlainWithin w → StandsIn before mid from w v → IsPlainWithin v
-which_plain before mid from w v h (inl (none, at, e)) = subst IsPlainWithin (sym e) h
-which_plain before mid from w v (inl is) (inr e) = inl (e ∙ ap beyond is)
-which_plain before mid from w v (inr (at, is)) (inr e) = inl (e ∙ ap beyond is)
+around_lead : (text : List ℕ) (item : Bool) (w : Within) (from : ℕ) (y : Ranged) → IsLead text w from y → IsAround item w → IsAround item Elsewhere
+around_lead text item (InText at) from y l h = h
+around_lead text item w from y l h = absurd l
 
-in_item_by : (t : Bool) (before : ℕ) (x : Ranged) → x.item ≡ false → x.definitions ≡ false → x.text_block ≡ t → IsPlainWithin (below InItem before x)
-in_item_by true before x other none is = inr (before, (let e : below InItem before x ≡ InText before = rw (other, is) refl in e))
-in_item_by false before x other none is = inl (let e : below InItem before x ≡ Elsewhere = rw (other, is, none) refl in e)
+around_by : (outer item block : Bool) (from : ℕ) (x : Ranged) → x.item ≡ item → x.text_block ≡ block → x.definitions ≡ false
+    → IsAround item (below (if outer then InItem else Elsewhere) from x)
+around_by true true block from x i b none = rw i refl
+around_by true false true from x i b none = rw (i, b) refl
+around_by true false false from x i b none = rw (i, b, none) refl
+around_by false true block from x i b none = rw i refl
+around_by false false block from x i b none = rw i refl
 
-below_plain : (item : Bool) (before : ℕ) (x : Ranged) → x.item ≡ false → x.definitions ≡ false
-    → IsPlainWithin (below (if item then InItem else Elsewhere) before x)
-below_plain true before x other none = in_item_by x.text_block before x other none refl
-below_plain false before x other none = inl (ap (λ (i : Bool). if i then InItem else Elsewhere) other)
+around_level : (levels : List (Siblings × Ranged)) (from : ℕ) (x : Ranged) → x.definitions ≡ false → IsAround x.item (below (open_within levels) from x)
+around_level [] from x none = around_by false x.item x.text_block from x refl refl none
+around_level (level ∷ levels) from x none = around_by level.1.item x.item x.text_block from x refl refl none
 
-open_plain : (levels : List (Siblings × Ranged)) (from : ℕ) (x : Ranged) → x.item ≡ false → x.definitions ≡ false
-    → IsPlainWithin (below (open_within levels) from x)
-open_plain [] from x other none = below_plain false from x other none
-open_plain (level ∷ levels) from x other none = below_plain level.1.item from x other none
-
-in_item : (w : Within) (from : ℕ) (x : Ranged) → x.item ≡ true → below w from x ≡ InItem
-in_item Elsewhere from x is = ap (λ (i : Bool). if i then InItem else Elsewhere) is
-in_item InItem from x is = (let e : below InItem from x ≡ InItem = rw is refl in e)
-in_item (InText at) from x is = ap (λ (i : Bool). if i then InItem else Elsewhere) is
-in_item (InFirst at) from x is = (let e : below (InFirst at) from x ≡ InItem = rw is refl in e)
-
-in_stands : (w : Within) (start : ℕ) (x : Ranged) (before : Siblings) (mid from : ℕ) (v : Within) → x.item ≡ true
-    → StandsIn before mid from (below w start x) v → v ≡ InItem
-in_stands w start x before mid from v is (inl (none, at, e)) = e ∙ in_item w start x is
-in_stands w start x before mid from v is (inr e) = e ∙ ap beyond (in_item w start x is)
-
--- a paragraph or another text block, and no item
-record IsTextBlock (x : Ranged) : Type 0 where
+-- a paragraph or another text block, and neither a task list item marker nor an item
+pub record IsTextBlock (x : Ranged) : Type 0 where
+  pub plain : x.marker ≡ false
   pub other : x.item ≡ false
   pub block : x.text_block ≡ true
 
--- The last child of the innermost open node, a paragraph, becomes a title: the first child of a definition list that
--- is open in its place. The open nodes are then in order.
-titled_below : (mid : ℕ) (item : Bool) (x : Ranged) (v : Within) → IsTextBlock x → (item ≡ true → v ≡ InItem) → (item ≡ false → IsPlainWithin v)
-    → below v mid x ≡ below (below (if item then InItem else Elsewhere) mid (as_list x)) x.start x
-titled_below mid true x v is inner outer =
-    let same : below InItem mid x ≡ below (InFirst mid) x.start x = rw (is.other, is.block) refl in
-    ap (λ w. below w mid x) (inner refl) ∙ same
-titled_below mid false x v is inner outer = plain_below v mid x is.other (outer refl) ∙ sym (plain_below Elsewhere x.start x is.other (inl refl))
+titled_below : (mid : ℕ) (item : Bool) (x : Ranged) (w : Within) → IsTextBlock x → IsAround item w
+    → below w mid x ≡ below (below (if item then InItem else Elsewhere) mid (as_list x)) x.start x
+titled_below mid item x (InFirst at) is h = absurd h
+titled_below mid item x w is h = simp (h, is.other, is.block)
 
-titled_in : (text : List ℕ) (to mid : ℕ) (item : Bool) (x : Ranged) (kids : Siblings) (v : Within)
-    → IsTextBlock x → (item ≡ true → v ≡ InItem) → (item ≡ false → IsPlainWithin v) → IsBetween text mid to x → Fits text (below v mid x) x.start x.«end» kids
-    → Fits text (below (if item then InItem else Elsewhere) mid (as_list x)) x.start to (Node x kids Empty)
+-- The last node of a row, a text block, becomes a title: the first child of a definition list in its place.
+titled : (text : List ℕ) (w : Within) (item : Bool) (from to : ℕ) (before : Siblings) (x : Ranged) (kids : Siblings) → IsTextBlock x → IsAround item w
+    → Fits text w from to (beside before (Node x kids Empty))
+    → (mid : ℕ) × (mid ≤ x.start) × Fits text (below (if item then InItem else Elsewhere) mid (as_list x)) x.start to (Node x kids Empty)
+    × IsCharBoundary text x.start × Fits text w from mid before
 unfolding Fits
-titled_in text to mid item x kids v is inner outer between h =
-    inl (
-      record { following = omega arith; order = between.order; before = between.before; starts = between.starts; ends = between.ends },
-      subst (λ w. Fits text w x.start x.«end» kids) (titled_below mid item x v is inner outer) h,
-      between.before,
-    )
+titled text w item from to Empty x kids is around (inl (b, inside, room)) = (
+  from,
+  b.following,
+  inl (
+    record { following = omega arith; order = b.order; before = b.before; starts = b.starts; ends = b.ends },
+    subst (λ v. Fits text v x.start x.«end» kids) (titled_below from item x w is around) inside,
+    b.before,
+  ),
+  b.starts,
+  omega arith,
+)
+titled text w item from to Empty x kids is around (inr (first, inside, room)) = absurd (no_lead text w from x is.plain first)
+titled text w item from to (Node y more before) x kids is around (inl (b, inside, rest)) =
+    let (mid, low, fits, starts, front) = titled text (beyond w) item y.«end» to before x kids is (around_beyond item w around) rest in
+    let room = fits-order text (beyond w) y.«end» mid before front in
+    (mid, low, fits, starts, inl (record { following = b.following; order = b.order; before = room; starts = b.starts; ends = b.ends }, inside, front))
+titled text w item from to (Node y more before) x kids is around (inr (first, inside, rest)) =
+    let (mid, low, fits, starts, front) = titled text Elsewhere item from to before x kids is (around_lead text item w from y first around) rest in
+    (mid, low, fits, starts, inr (first, inside, front))
 
-pub fits_open_titled : (text : List ℕ) (to : ℕ) (levels : List (Siblings × Ranged)) (before : Siblings) (x : Ranged) (kids : Siblings)
-    → x.marker ≡ false → x.item ≡ false → x.text_block ≡ true → open_definitions levels ≡ false
-    → FitsOpen text to levels (beside before (Node x kids Empty)) → FitsOpen text to ((before, as_list x) ∷ levels) (Node x kids Empty)
+-- the same for the last child of the innermost open node: the list is then open
+pub fits_open_titled : (text : List ℕ) (to : ℕ) (levels : List (Siblings × Ranged)) (before : Siblings) (x : Ranged) (kids : Siblings) → IsTextBlock x
+    → open_definitions levels ≡ false → FitsOpen text to levels (beside before (Node x kids Empty))
+    → FitsOpen text to ((before, as_list x) ∷ levels) (Node x kids Empty)
 unfolding FitsOpen
-fits_open_titled text to [] before x kids plain other block none h =
-    let r = fits_apart text Elsewhere 0 to before x kids plain h in
-    let stands = which_plain before r.mid 0 Elsewhere r.stands (inl refl) r.which in (
-      r.mid,
-      r.between.following,
-      titled_in text to r.mid false x kids r.stands (record { other = other; block = block }) (λ e. cc) (λ e. stands) r.between r.inside,
-      r.between.starts,
-      r.front,
-    )
-fits_open_titled text to (level ∷ levels) before x kids plain other block none (from, low, h, starts, rest) =
+fits_open_titled text to [] before x kids is none h = titled text Elsewhere false 0 to before x kids is refl h
+fits_open_titled text to (level ∷ levels) before x kids is none (from, low, h, starts, rest) =
     let w : Within = below (open_within levels) from level.1 in
-    let r = fits_apart text w level.1.start to before x kids plain h in (
-      r.mid,
-      r.between.following,
-      titled_in text to r.mid level.1.item x kids r.stands (record { other = other; block = block })
-          (λ item. in_stands (open_within levels) from level.1 before r.mid level.1.start r.stands item r.which)
-          (λ item. which_plain before r.mid level.1.start w r.stands (open_plain levels from level.1 item none) r.which) r.between r.inside,
-      r.between.starts,
-      (from, low, r.front, starts, rest),
-    )
+    let (mid, under, fits, begins, front) =
+    titled text w level.1.item level.1.start to before x kids is (around_level levels from level.1 none) h in
+    (mid, under, fits, begins, (from, low, front, starts, rest))
 
 -- nodes that are no less deep
 abbrev IsDeep : ℕ → ℕ × Ranged → Type 0
@@ -242,41 +170,26 @@ laid-deep d (Node x kids next) =
     All-cons (IsDeep d) (d, x) (laid (suc d) kids ++ laid d next) (omega arith)
     (All-append (IsDeep d) (laid (suc d) kids) (laid d next) inside (laid-deep d next))
 
-deep-at : (d : ℕ) (ns : List (ℕ × Ranged)) (k : ℕ) → All (IsDeep d) ns → k < length (depths ns) → d ≤ slice_index (depths ns) k
-deep-at d ns k h w = All-map (λ e. d ≤ e) (λ (n : ℕ × Ranged). n.0) ns h k 0 w
-
-after_first : (n : ℕ) (ns : List ℕ) (d k : ℕ) → IsLastAt (n ∷ ns) d (suc k) → IsLastAt ns d k
-after_first n ns d k h = record {
-  within = (let w = h.within in omega arith);
-  depth = h.depth;
-  following = λ i low high. h.following (suc i) (omega arith) (omega arith);
-}
-
 depth_there : (front : List (ℕ × Ranged)) (d : ℕ) (x : Ranged) (more : List (ℕ × Ranged)) → slice_index (depths (front ++ (d, x) ∷ more)) (length front) ≡ d
 depth_there [] d x more = refl
 depth_there (n ∷ front) d x more = depth_there front d x more
 
-within_there : (front : List (ℕ × Ranged)) (d : ℕ) (x : Ranged) (more : List (ℕ × Ranged)) → length front < length (depths (front ++ (d, x) ∷ more))
-within_there [] d x more = omega arith
-within_there (n ∷ front) d x more = (let w = within_there front d x more in omega arith)
+deeper_there : (front : List (ℕ × Ranged)) (d e : ℕ) (x : Ranged) (deep : List (ℕ × Ranged)) (k : ℕ) → All (IsDeep d) deep → length front < k
+    → k < length (depths (front ++ (e, x) ∷ deep)) → d ≤ slice_index (depths (front ++ (e, x) ∷ deep)) k
+deeper_there front d e x deep zero below low high = absurd (omega arith)
+deeper_there [] d e x deep (suc k) below low high = All-map (λ e. d ≤ e) (λ (n : ℕ × Ranged). n.0) deep below k 0 (omega arith)
+deeper_there (n ∷ front) d e x deep (suc k) below low high = deeper_there front d e x deep k below (omega arith) (omega arith)
 
 -- the last node of a depth is the one with only deeper nodes after it; after one that is less deep there is none
 last_place : (front : List (ℕ × Ranged)) (d e : ℕ) (x : Ranged) (deep : List (ℕ × Ranged)) (k : ℕ) → e ≤ d
     → All (IsDeep (suc d)) deep → IsLastAt (depths (front ++ (e, x) ∷ deep)) d k → (e ≡ d) × (k ≡ length front)
-last_place [] d e x deep zero less below h = (h.depth, refl)
-last_place [] d e x deep (suc k) less below h =
-    let w = h.within in
-    let low : suc d ≤ slice_index (depths deep) k = deep-at (suc d) deep k below (omega arith) in
-    let is : slice_index (depths deep) k ≡ d = h.depth in
-    absurd (omega arith)
-last_place (n ∷ front) d e x deep zero less below h =
-    let w = within_there front e x deep in
-    let high : d < slice_index (depths (front ++ (e, x) ∷ deep)) (length front) = h.following (suc (length front)) (omega arith) (omega arith) in
-    let is = depth_there front e x deep in
-    absurd (omega arith)
-last_place (n ∷ front) d e x deep (suc k) less below h =
-    let rest = last_place front d e x deep k less below (after_first n.0 (depths (front ++ (e, x) ∷ deep)) d k h) in
-    (rest.0, ap suc rest.1)
+last_place front d e x deep k less below h =
+    let here = depth_there front e x deep in
+    let size = length-map (front ++ (e, x) ∷ deep) (λ n. n.0) in
+    let sum = length-append front ((e, x) ∷ deep) in
+    let high = deeper_there front (suc d) e x deep k below in
+    let there : k ≡ length front = grind (arith, here, size, sum, h.depth, h.within, h.following (length front), high) in
+    (sym here ∙ ap (slice_index (depths (front ++ (e, x) ∷ deep))) (sym there) ∙ h.depth, there)
 
 no_child : (root : Ranged) (levels : List (Siblings × Ranged)) (k : ℕ) → IsLastAt (depths (laid_open root levels Empty)) (suc (length levels)) k → ⊥
 unfolding laid_open laid
@@ -314,7 +227,7 @@ last_child nodes root levels row place y is last here =
           let deep = All-append (IsDeep (suc d)) (laid (suc d) kids) [] (laid-deep (suc d) kids) (All-nil (IsDeep (suc d))) in
           let there : place ≡ length front = (last_place front d d x more place (omega arith) deep (subst (λ z. IsLastAt (depths z) d place) split at)).1 in
           let (m, found, extent) = node_there nodes front (d, x) more place (is ∙ split) there in
-          let same : m.1 ≡ y = same_Some m.1 y (sym (ap (option_map (λ (n : ℕ × Item). n.1)) found) ∙ here) in
+          let same = same_Some m.1 y (sym (ap (option_map (λ (n : ℕ × Item). n.1)) found) ∙ here) in
           let named : extent_of y ≡ x = ap extent_of (sym same) ∙ ap (λ (z : ℕ × Ranged). z.1) extent in
           record {
             before = before;
@@ -327,10 +240,7 @@ last_child nodes root levels row place y is last here =
 -- the current node of a tree in order
 pub current_child : (text : List ℕ) (f : Forest Item) (a : ℕ) (c : TreeIndex) (y : Item) → IsForest f → f.current ≡ Some c → item_at f c ≡ Some y
     → (h : IsOrderedTo text f a) → LastChild h.root h.levels h.row c.0 (extent_of y)
-current_child text f a c y forest current here h =
-    let deep : length f.spine + 1 ≡ suc (length h.levels) = (let n = length-places h.root h.levels f.spine h.places in omega arith) in
-    let last = subst (λ z. IfSome z (λ c. IsLastAt (depths f.nodes) (length f.spine + 1) c.0)) current forest.at_current in
-    last_child f.nodes h.root h.levels h.row c.0 y h.nodes (subst (λ k. IsLastAt (depths f.nodes) k c.0) deep last) here
+current_child text f a c y forest current here h = grind (arith, length-places, last_child)
 
 -- a row one deeper or less deep
 pub laid-deeper : (k : ℕ) (row : Siblings) → map deeper (laid k row) ≡ laid (suc k) row
@@ -340,26 +250,23 @@ laid-deeper k (Node x kids next) =
     let one : k + 1 ≡ suc k = omega arith in
     cc (map-append deeper (laid (suc k) kids) (laid k next), laid-deeper (suc k) kids, laid-deeper k next)
 
-shallower_deeper : (ns : List (ℕ × Ranged)) → map shallower (map deeper ns) ≡ ns
-shallower_deeper [] = refl
-shallower_deeper ((d, x) ∷ ns) = (let same : (d + 1) - 1 ≡ d = omega arith in cc (shallower_deeper ns))
-
 pub laid-shallower : (k : ℕ) (row : Siblings) → map shallower (laid (suc k) row) ≡ laid k row
-laid-shallower k row = ap (map shallower) (sym (laid-deeper k row)) ∙ shallower_deeper (laid k row)
+unfolding laid
+laid-shallower k Empty = refl
+laid-shallower k (Node x kids next) =
+    let one : suc k - 1 ≡ k = omega arith in
+    cc (map-append shallower (laid (suc (suc k)) kids) (laid (suc k) next), laid-shallower (suc k) kids, laid-shallower k next)
 
 -- the extents of nodes at other depths
-pub extents-deeper : (nodes : List (ℕ × Item)) → extents (map deeper nodes) ≡ map deeper (extents nodes)
-extents-deeper [] = refl
-extents-deeper (n ∷ nodes) = ap (λ (z : List (ℕ × Ranged)). (n.0 + 1, extent_of n.1) ∷ z) (extents-deeper nodes)
-
-extents-shallower : (nodes : List (ℕ × Item)) → extents (map shallower nodes) ≡ map shallower (extents nodes)
-extents-shallower [] = refl
-extents-shallower (n ∷ nodes) = ap (λ (z : List (ℕ × Ranged)). (n.0 - 1, extent_of n.1) ∷ z) (extents-shallower nodes)
+pub extents-mapped : (f : ℕ → ℕ) (nodes : List (ℕ × Item))
+    → extents (map (λ (n : ℕ × Item). (f n.0, n.1)) nodes) ≡ map (λ (n : ℕ × Ranged). (f n.0, n.1)) (extents nodes)
+extents-mapped f [] = refl
+extents-mapped f (n ∷ nodes) = ap (λ (z : List (ℕ × Ranged)). (f n.0, extent_of n.1) ∷ z) (extents-mapped f nodes)
 
 -- those from a place on one less deep
 pub extents-moved : (front more : List (ℕ × Ranged)) (nodes : List (ℕ × Item)) → extents nodes ≡ front ++ more
     → extents (map_from shallower (length front) nodes) ≡ front ++ map shallower more
-extents-moved [] more nodes is = extents-shallower nodes ∙ ap (map shallower) is
+extents-moved [] more nodes is = extents-mapped (λ d. d - 1) nodes ∙ ap (map shallower) is
 extents-moved (n ∷ front) more [] is = cc
 extents-moved (n ∷ front) more (m ∷ nodes) is =
     (let rest : extents nodes ≡ front ++ more = cc in cc (extents-moved front more nodes rest))

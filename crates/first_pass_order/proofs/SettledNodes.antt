@@ -1,6 +1,6 @@
 -- No node of a derived forest may still become a title.
-use Rattle.std.proofs.Common.{◌≡◌, ℕ, suc, Bool, true, false, List, [], ◌∷◌, length, refl, sym, subst, true≢false}
-use Rattle.first_pass_grammar.proofs.Common.{Item, ItemBody, Paragraph, MaybeDefinitionListTitle, at_depth, tight_body, nothing, LeafBlock, block_items}
+use Rattle.std.proofs.Common.{◌≡◌, ℕ, suc, Bool, true, false, List, [], ◌∷◌, length, refl, sym, subst, true≢false, arith}
+use Rattle.first_pass_grammar.proofs.Common.{Item, ItemBody, Paragraph, MaybeDefinitionListTitle, tight_body, nothing, LeafBlock, block_items}
 use Rattle.first_pass_grammar.proofs.Common.{as_title, row_items, tight_in, items_of, Tables, Derives, Document, What, ALeaf, ATitle, Rows, End, OneOf}
 use Rattle.first_pass_grammar.proofs.Common.{is_loose, rows_of}
 use Rattle.first_pass_grammar.proofs.Each.EachLeaf.{IsBlockOf, begins_block, is_inner}
@@ -30,8 +30,7 @@ tight_settled Paragraph h = refl
 tight_settled b h = h
 
 block_settled : (depth : ℕ) (tight : Bool) (block : LeafBlock) → AreSettled block.items → AreSettled (block_items depth tight block)
-block_settled depth true block h =
-    tight_nodes IsSettled tight_settled depth (at_depth depth block.items) (deeper_nodes IsSettled depth block.items h)
+block_settled depth true block h = grind (arith, tight_nodes, tight_settled, deeper_nodes)
 block_settled depth false block h = deeper_nodes IsSettled depth block.items h
 
 title_settled : (items : List (ℕ × Item)) → SettledBlock items → AreSettled (as_title items)

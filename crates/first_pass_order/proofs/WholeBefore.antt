@@ -7,8 +7,7 @@ use Rattle.first_pass_grammar.proofs.Common.{InContainer, InList, InDefinitions,
 use Rattle.first_pass_grammar.proofs.Common.{is_quote, Mark, ATable, ARow, ACell, shown, marks, RowCells, row_marks, TableRows, table_marks, AreFull}
 use Rattle.first_pass_grammar.proofs.Common.{AreWholeTables}
 use Rattle.first_pass_grammar.specs.declared.kind.Container.{Container}
-use Rattle.first_pass_grammar.specs.Completion.{rows_on}
-use Rattle.first_pass_grammar.specs.Completion.{Completion}
+use Rattle.first_pass_grammar.specs.Completion.{rows_on, Completion}
 use Rattle.first_pass_grammar.proofs.Each.EachRow.{each_row}
 use Rattle.first_pass_grammar.proofs.Sequences.Finishes.{containers-loosened}
 use Rattle.first_pass_grammar.proofs.WholeTables.FullHeads.{heads_are_full}

@@ -2,7 +2,7 @@
 -- and a leaf block adds whole tables. A possible title that turns out to be none has no part of a table, nor does a
 -- paragraph that becomes a title.
 use Rattle.std.proofs.Common.{◌≡◌, ℕ, zero, suc, ◌+◌, ◌||◌, Bool, true, false, List, [], ◌∷◌, ◌++◌, length, Option, Some, None, refl, sym, ap, subst, ◌∙◌}
-use Rattle.std.proofs.Common.{IsSomeAnd, true≢false}
+use Rattle.std.proofs.Common.{IsSomeAnd, true≢false, arith}
 use Rattle.first_pass_grammar.proofs.Common.{option_map_or, or_parts, false_from_ne_true, Item, ItemBody, TableHead, TableRow, TaskListMarker, Options}
 use Rattle.first_pass_grammar.proofs.Common.{TreeIndex, Forest, IsForest, modify, empty_forest, with_end_at, body_at, added, at_depth, map_from, shallower}
 use Rattle.first_pass_grammar.proofs.Common.{body-kept, Place, line_end, IsPlaceOf, Names, Extends, AreNamed, Kind, Document, document, lines_from}
@@ -10,8 +10,7 @@ use Rattle.first_pass_grammar.proofs.Common.{is_task_marker, leaf_block, Line, O
 use Rattle.first_pass_grammar.proofs.Common.{ShowsNothing, AreEachNode, SilentFrom, may_be_title, HasWholeTables, CowIndex}
 use Rattle.std.proofs.lemmas.Bool.{or_from}
 use Rattle.first_pass_grammar.specs.declared.kind.Container.{Container}
-use Rattle.first_pass_grammar.specs.WholeTables.{HaveNoRows}
-use Rattle.first_pass_grammar.specs.WholeTables.{IsSilentLast}
+use Rattle.first_pass_grammar.specs.WholeTables.{HaveNoRows, IsSilentLast}
 use Rattle.first_pass_grammar.proofs.WholeTables.FullHeads.{heads_are_full}
 use Rattle.first_pass_grammar.proofs.Sequences.LinesLeft.{lines_from_at}
 use Rattle.first_pass_completion.proofs.SilentNodes.{from_modified, from_from, marks_moved}
@@ -28,9 +27,9 @@ use Rattle.first_pass_lists.specs.Closing.{popped, empty_item_closed, list_finis
 use Rattle.first_pass_lists.specs.declared.state.PassState.{PassState}
 use Rattle.first_pass_order.specs.LeafBlocks.{AddsKind}
 use Rattle.first_pass_order.proofs.Nests.{title_there, body-moved, first_there}
-use Rattle.first_pass_order.proofs.AlikeNodes.{IsBodyLike, AreAlike, NoNodes, OneMore, LooksAlike}
+use Rattle.first_pass_order.proofs.AlikeNodes.{IsBodyLike, AreAlike, NoNodes, OneMore, LooksAlike, like_blank}
 use Rattle.first_pass_order.proofs.PropertyKept.{IsLeft, Property, MayLeave, none_leaves, HoldsAt, HoldsBefore, popped_keeps, empty_item_closed_keeps}
-use Rattle.first_pass_order.proofs.PropertyKept.{list_finished_keeps, quote_keeps, item_keeps, note_keeps, blank_keeps}
+use Rattle.first_pass_order.proofs.PropertyKept.{list_finished_keeps, quote_keeps, item_keeps, note_keeps}
 use Rattle.first_pass_lists.proofs.NoEmptyItem.{item_opened}
 
 -- the node at a place is neither a row nor a text that a definition list may take in
@@ -71,7 +70,7 @@ silent_open : (nodes : List (ℕ × Item)) (i : ℕ) (o : Option ItemBody) → b
 silent_open nodes i None is h = absurd h
 silent_open nodes i (Some b) is h = ap (λ o. option_map_or may_be_title o false) is ∙ (or_parts (is_row b) (may_be_title b) h).1
 
--- the marker of a task has no part of a table
+-- a task list item marker has no part of a table
 pub task_shows : (body : ItemBody) → is_task_marker body ≡ true → ShowsNothing body
 task_shows (TaskListMarker checked) h = λ names depth start end. refl
 task_shows body h = cc
@@ -106,10 +105,7 @@ pub record IsKept (names : Names) (f : Forest Item) : Type 0 where
 marks_alike : (names : Names) (old new : List (ℕ × Item)) → AreAlike old new → marks names new ≡ marks names old
 unfolding marks
 marks_alike names old new NoNodes = refl
-marks_alike names old new (OneMore n m xs ys a h) =
-    let rest = marks_alike names xs ys h in
-    let same = ap (λ t. t.5 names m.0 m.1.start m.1.«end») a.body.0 in
-    cc (a.depth, a.start, a.«end»)
+marks_alike names old new (OneMore n m xs ys a h) = grind (arith, marks_alike names xs ys h)
 
 silent_like : (b c : ItemBody) → IsBodyLike b c → ShowsNothing b → ShowsNothing c
 silent_like b c like h = λ names depth start end. ap (λ t. t.5 names depth start end) like.0 ∙ h names depth start end
@@ -124,10 +120,7 @@ from_alike old new zero (OneMore n m xs ys a l) h = (silent_like n.1.body m.1.bo
 from_alike old new (suc i) (OneMore n m xs ys a l) h = from_alike xs ys i l h
 
 still_open : (b c : ItemBody) → IsBodyLike b c → may_not_open b ≡ false → may_not_open c ≡ false
-still_open b c like h =
-    let p = or_parts (is_row b) (may_be_title b) h in
-    or_from (is_row c) (may_be_title c) (ap (λ t. t.0) like.0 ∙ p.0)
-    (false_from_ne_true (may_be_title c) (λ title. true≢false (sym (like.1 title) ∙ p.1)))
+still_open b c like h = grind (arith, or_parts, or_from, false_from_ne_true)
 
 rows_alike : (old new : List (ℕ × Item)) → AreAlike old new → KeepNoRows old new
 rows_alike old new NoNodes i h = h
@@ -149,8 +142,7 @@ module _ (names : Names) where
       → marks names (modify nodes place (λ x. record x { «end» = e })) ≡ marks names nodes
   unfolding marks
   marks_ended [] place e h = refl
-  marks_ended (n ∷ nodes) zero e h =
-      cc (end_shows names n.0 n.1.start n.1.«end» e n.1.body (or_parts (is_row n.1.body) (may_be_title n.1.body) h).0)
+  marks_ended (n ∷ nodes) zero e h = grind (arith, end_shows, or_parts)
   marks_ended (n ∷ nodes) (suc place) e h = ap (λ (z : List Mark). shown names n.0 n.1.start n.1.«end» n.1.body ++ z) (marks_ended nodes place e h)
 
   -- the tables of the state
@@ -163,8 +155,7 @@ module _ (names : Names) where
   -- one more node without any part of a table
   one_whole : (nodes : List (ℕ × Item)) (n : ℕ × Item) → ShowsNothing n.1.body → AreWholeTables names nodes → AreWholeTables names (nodes ++ n ∷ [])
   unfolding marks
-  one_whole nodes n own h =
-      whole_both names nodes (n ∷ []) h (whole_none names (n ∷ []) (ap (λ (z : List Mark). z ++ []) (own names n.0 n.1.start n.1.«end»)))
+  one_whole nodes n own h = grind (arith, whole_both, whole_none)
 
   pub like_whole : (f g : Forest Item) → LooksAlike f g → HasWholeTables names f → HasWholeTables names g
   like_whole f g l h = record {
@@ -198,13 +189,12 @@ module _ (names : Names) where
       let still : SilentFrom l.mid c.0 = from_alike ended l.mid c.0 l.alike (from_modified f.nodes l.list.0 c.0 to (λ x k. k) silent) in
       let keeps : KeepNoRows f.nodes moved =
       λ i k. same_keeps l.mid moved (body-moved c.0 l.mid) i (rows_alike ended l.mid l.alike i (ended_keeps f.nodes l.list.0 e i k)) in
-      let last : SilentFrom moved c.0 = from_from shallower (λ n k. k) c.0 l.mid c.0 still in
       record {
         whole = whole_same names f.nodes g.nodes
             (ap (marks names) l.nodes ∙ marks_moved shallower (λ n k. k) names c.0 l.mid still ∙ marks_alike names ended l.mid l.alike
             ∙ marks_ended f.nodes l.list.0 e none.0) h.whole;
-        none_open = subst (λ ns. HaveNoRows ns g.spine) (sym l.nodes) (subst (HaveNoRows moved) (sym l.outer) (none_kept f.nodes moved l.rest keeps none.1));
-        last = subst (λ ns. IsSilentLast ns g.current) (sym l.nodes) (subst (IsSilentLast moved) (sym (l.last forest)) (λ may. last));
+        none_open = rw (l.nodes, l.outer) (none_kept f.nodes moved l.rest keeps none.1);
+        last = rw (l.nodes, l.last forest) (λ may. from_from shallower (λ n k. k) c.0 l.mid c.0 still);
       }
 
   -- a node without any part of a table is opened
@@ -214,10 +204,7 @@ module _ (names : Names) where
       let n : ℕ × Item = (length f.spine + 1, begun_item start body) in
       record {
         whole = one_whole f.nodes n own h.whole;
-        none_open = (
-          subst (λ o. IsSomeAnd o (λ b. may_not_open b ≡ false)) (sym (first_there f.nodes n [])) other,
-          none_kept f.nodes (f.nodes ++ n ∷ []) f.spine (front_keeps f.nodes (n ∷ [])) h.none_open,
-        );
+        none_open = (rw (first_there f.nodes n []) other, none_kept f.nodes (f.nodes ++ n ∷ []) f.spine (front_keeps f.nodes (n ∷ [])) h.none_open);
         last = tt;
       }
 
@@ -238,9 +225,7 @@ module _ (names : Names) where
 
   -- a last child that is a possible title has no part of a table
   may_leave : (f : Forest Item) → IsForest f → HasWholeTables names f → MayLeave whole_kept 0 f
-  may_leave f forest h title is =
-      let t = title_there f title is in
-      (subst (IsSilentLast f.nodes) t.current h.last (ap (λ o. option_map_or may_be_title o false) t.body), forest)
+  may_leave f forest h title is = grind (arith, title_there)
 
   whole_at : (r : PassState) → IsReadWhole r → HoldsAt whole_kept 0 0 r
   whole_at r h = record { holds = h; goes = tt; marked = λ e is. (tt, tt) }
@@ -255,27 +240,25 @@ module _ (names : Names) where
   empty_item_closed_whole r h = empty_item_closed_keeps whole_kept 0 0 r (whole_at r h)
 
   pub list_finished_whole : (e : ℕ) (r : PassState) → IsForest r.tree → IsReadWhole r → IsReadWhole (list_finished e r)
-  list_finished_whole e r forest h =
-      list_finished_keeps whole_kept 0 e 0 0 r (whole_before r forest h) (record { closes = λ list. tt; ends = tt; short = tt; later = tt })
+  list_finished_whole e r forest h = list_finished_keeps whole_kept 0 e 0 0 r (whole_before r forest h) ((λ list. tt), tt, tt, tt)
 
   pub item_whole : (start byte number columns : ℕ) (r : PassState) → IsForest r.tree → IsReadWhole r
       → IsReadWhole (item_opened start byte number columns r)
   item_whole start byte number columns r forest h =
-      item_keeps whole_kept 0 start byte number columns 0 r (whole_before r forest h) (record { here = tt; goes = tt; there = tt; starts = tt })
+      item_keeps whole_kept 0 start byte number columns 0 r (whole_before r forest h) (tt, tt, tt, tt)
       (λ names depth start end. refl, refl) (λ names depth start end. refl, refl)
 
   pub quote_whole : (line start : ℕ) (body : ItemBody) (r : PassState) → ShowsNothing body → may_not_open body ≡ false → IsForest r.tree → IsReadWhole r
       → IsReadWhole (begun start body (list_finished line r))
   quote_whole line start body r own other forest h =
-      quote_keeps whole_kept 0 line 0 start 0 body r (whole_before r forest h) (record { closes = λ list. tt; ends = tt; short = tt; later = tt })
-      tt tt (own, other)
+      quote_keeps whole_kept 0 line 0 start 0 body r (whole_before r forest h) ((λ list. tt), tt, tt, tt) tt tt (own, other)
 
   pub note_whole : (start : ℕ) (index : CowIndex) (r : PassState) → IsForest r.tree → IsReadWhole r → IsReadWhole (footnote_begun start index r)
   note_whole start index r forest h =
       note_keeps whole_kept 0 start 0 index r (whole_before r forest h) tt tt tt (λ names depth start end. refl, refl)
 
   pub blank_whole : (r : PassState) → IsReadWhole r → IsReadWhole (blank_read r)
-  blank_whole r h = blank_keeps whole_kept 0 0 r h
+  blank_whole r h = like_whole r.tree (blank_read r).tree (like_blank r) h
 
   -- the same if the last child is no possible title
   pub popped_plain_whole : (e : ℕ) (r : PassState) → possible_title r.tree ≡ None → IsReadWhole r → IsReadWhole (popped e r)
@@ -285,7 +268,7 @@ module _ (names : Names) where
   pub more_whole : (old : Names) (f : Forest Item) → Extends names old → AreNamed old f.nodes → HasWholeTables old f → HasWholeTables names f
   more_whole old f more named h = record { whole = whole_still names old f.nodes more named h.whole; none_open = h.none_open; last = h.last }
 
-  -- the marker of a task
+  -- a task list item marker
   pub child_whole : (f : Forest Item) (marker : Option Item) → ((x : Item) → marker ≡ Some x → is_task_marker x.body ≡ true) → HasWholeTables names f
       → HasWholeTables names (with_child f marker)
   child_whole f None mark h = h
@@ -318,9 +301,7 @@ module _ (names : Names) where
   first_shows (suc i) e = refl
 
   pub first_whole : (tree : Forest Item) (root : TreeIndex) (e : ℕ) → tree ≡ with_end_at empty_forest root e → HasWholeTables names tree
-  first_whole tree root e is =
-      let nodes : List (ℕ × Item) = modify empty_forest.nodes root.0 (λ x. record x { «end» = e }) in
-      subst (HasWholeTables names) (sym is) (record { whole = whole_none names nodes (first_shows root.0 e); none_open = tt; last = tt })
+  first_whole tree root e is = grind (arith, whole_none, first_shows)
 
 -- an added leaf block of a kind
 pub kind_whole : (text : List ℕ) (options : Options) (names : Names) (p : Place) (kind : Kind) (gap : Bool) (old new : Forest Item) (next : ℕ)

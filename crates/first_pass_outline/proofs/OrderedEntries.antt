@@ -1,12 +1,11 @@
 -- The entries of a derived tree lie one after the other.
-use Rattle.std.proofs.Common.{◌≡◌, ◌⊎◌, inl, inr, ℕ, suc, ◌≤◌, Bool, true, false, List, [], ◌∷◌, ◌++◌, length, Option, Some, None, refl, sym, ap, subst}
-use Rattle.std.proofs.Common.{◌∙◌, if◌then◌else◌, arith, option_map, option_and_then}
+use Rattle.std.proofs.Common.{◌≡◌, ◌⊎◌, inl, inr, ℕ, suc, ◌≤◌, Bool, true, false, List, [], ◌∷◌, ◌++◌, length, Option, Some, None, refl, sym, ap, subst, ◌∙◌}
+use Rattle.std.proofs.Common.{if◌then◌else◌, arith, option_map, option_and_then}
 use Rattle.first_pass_grammar.proofs.Common.{HeadingLevel, Item, ItemBody, Heading, Tables, Derives, Document, Names, only_kind, read, Ranged, extent_of}
 use Rattle.first_pass_grammar.proofs.Common.{extents, Siblings, Empty, laid, IsBetween, Within, Elsewhere, InItem, InText, InFirst, below, beyond, Fits}
 use Rattle.first_pass_grammar.proofs.Common.{AreEachNode}
 use Rattle.std.specs.List.{cons_option}
-use Rattle.first_pass_grammar.specs.Order.{Node}
-use Rattle.first_pass_grammar.specs.Order.{IsOrdered}
+use Rattle.first_pass_grammar.specs.Order.{Node, IsOrdered}
 use Rattle.first_pass_outline.specs.Outline.{Entry, heading_level_of, id_in}
 use Rattle.first_pass_outline.specs.TextOutline.{IsRangeFrom, LieBetween}
 use Rattle.first_pass_outline.proofs.HeadingRows.{IsNoHeading, NoneBelow, NoneInside, derived_inside}

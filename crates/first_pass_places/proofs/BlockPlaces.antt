@@ -1,6 +1,6 @@
 -- The place of an attribute block: between the last `}` of a heading and the last `{` before it.
 use Rattle.std.proofs.Common.{◌≡◌, ℕ, suc, ◌+◌, ◌-◌, ◌<◌, ◌≤◌, ◌==◌, not, true, false, List, ◌∷◌, ◌++◌, length, take, drop, slice_index, Some, sym, ap, ◌∙◌}
-use Rattle.std.proofs.Common.{arith, append_assoc, eq-eqb, length-append, inl, inr, slice_range, get_or-drop, get_or-take, get_or-append-add, take-take}
+use Rattle.std.proofs.Common.{arith, append_assoc, eq-eqb, length-append, slice_range, get_or-drop, get_or-take, get_or-append-add, take-take}
 use Rattle.std.proofs.Common.{drop-drop, length-take, take-add}
 use Rattle.first_pass_grammar.proofs.Common.{cases_lt, nat_tests, get_or_past, drop-take, All-append, take-append_seam, left_brace, right_brace, Braces}
 use Rattle.first_pass_grammar.proofs.Common.{attribute_block}
@@ -22,10 +22,7 @@ part_short text start n = let size = length-take n (drop start text) in omega (a
 
 -- an offset at which a list has a byte other than 0 is less than the length of the list
 pub is_in : (bs : List ℕ) (k c : ℕ) → slice_index bs k ≡ c → 0 < c → k < length bs
-is_in bs k c e h = elim (cases_lt k (length bs)) as (λ _. k < length bs) [
-  | inl low ↦ low
-  | inr past ↦ absurd (let none = get_or_past bs k 0 past in omega (arith, none, e))
-]
+is_in bs k c e h = grind (arith, cases_lt, get_or_past)
 
 -- a part of a part
 part_of_part : (text : List ℕ) (s m a c : ℕ) → a ≤ c → c ≤ m → slice_range (take m (drop s text)) a c ≡ slice_range text (s + a) (s + c)

@@ -1,16 +1,16 @@
 -- The table of the nodes of footnote definitions: it grows by one node after the other, and has the labels of the
 -- table of footnotes.
 use Rattle.std.proofs.Common.{◌≡◌, ℕ, ◌+◌, ◌<◌, List, [], ◌∷◌, ◌++◌, length, map, take, get_or, refl, sym, ap, subst, ◌∙◌, zero, suc, append_assoc}
-use Rattle.std.proofs.Common.{length-append, arith, append-nil, length-take-le}
-use Rattle.first_pass_grammar.proofs.Common.{map-append, take_more, CowStr, CowIndex, Item, ItemBody, FootnoteDefinition, with_first, folded, folding_of}
-use Rattle.first_pass_grammar.proofs.Common.{Names, text_named, Tables, footnotes_of, Derives, Document, with_labels}
+use Rattle.std.proofs.Common.{arith, length-take-le}
+use Rattle.first_pass_grammar.proofs.Common.{map-append, take_more, CowStr, CowIndex, Item, ItemBody, FootnoteDefinition, with_first}
+use Rattle.first_pass_grammar.proofs.Common.{Names, Tables, footnotes_of, Derives, Document, with_labels}
 use Rattle.std.proofs.lemmas.Simd.{map-map}
 use Rattle.first_pass_labels.specs.LabelTables.{table_of, with_all}
 use Rattle.first_pass_labels.proofs.FirstOfEach.{map_put_all}
-use Rattle.first_pass_labels.proofs.TextOrder.{label_of, table_is}
-use Rattle.first_pass_grammar.proofs.LinkTables.FirstLinks.{itself, put_labels}
+use Rattle.first_pass_labels.proofs.TextOrder.{table_is}
+use Rattle.first_pass_grammar.proofs.LinkTables.FirstLinks.{put_labels}
 use Rattle.first_pass_places.specs.FootnoteNodes.{label_with_index, labels_from, entry_bytes, AreFirstFootnotes, AddsNode, entry_label}
-use Rattle.first_pass_places.proofs.FootnoteRows.{footnote_in, node_footnotes, labels_named, derived_labels}
+use Rattle.first_pass_places.proofs.DerivedNodes.{footnote_in, node_footnotes, labels_named, derived_labels}
 
 pub all_after : {X : Type 0} (es ds fs : List (CowStr × X)) → with_all es (ds ++ fs) ≡ with_all (with_all es ds) fs
 unfolding with_all
@@ -20,8 +20,7 @@ all_after es (d ∷ ds) fs = all_after (with_first es d.0 d.1) ds fs
 labels_more : (names : Names) (index : ℕ) (nodes : List (ℕ × Item)) (n : ℕ × Item)
     → labels_from names index (nodes ++ n ∷ []) ≡ labels_from names index nodes ++ label_with_index names (index + length nodes) n.1.body
 unfolding labels_from
-labels_more names index [] n =
-    let same : index ≡ index + 0 = omega arith in append-nil (label_with_index names index n.1.body) ∙ ap (λ k. label_with_index names k n.1.body) same
+labels_more names index [] n = grind arith
 labels_more names index (m ∷ nodes) n =
     let same : index + 1 + length nodes ≡ index + length (m ∷ nodes) = omega arith in
     ap (λ l. label_with_index names index m.1.body ++ l)
@@ -60,14 +59,8 @@ pub label_among : (names : Names) (index j i : ℕ) (nodes : List (ℕ × Item))
     → 0 < length (label_with_index names j (get_or nodes i d).1.body) → 0 < length (labels_from names index nodes)
 unfolding labels_from
 label_among names index j i [] d within some = absurd (omega (arith, within))
-label_among names index j zero (n ∷ nodes) d within some =
-    let size = length-append (label_with_index names index n.1.body) (labels_from names (index + 1) nodes) in
-    let same = same_count names j index n.1.body in
-    omega (arith, size, same, some)
-label_among names index j (suc i) (n ∷ nodes) d within some =
-    let size = length-append (label_with_index names index n.1.body) (labels_from names (index + 1) nodes) in
-    let later = label_among names (index + 1) j i nodes d (omega (arith, within)) some in
-    omega (arith, size, later)
+label_among names index j zero (n ∷ nodes) d within some = grind (arith, same_count)
+label_among names index j (suc i) (n ∷ nodes) d within some = grind (arith, label_among names (index + 1) j i nodes d (omega (arith, within)) some)
 
 pub one_label : (names : Names) (index : ℕ) (ix : CowIndex) (body : ItemBody) → body ≡ FootnoteDefinition ix → 0 < length (label_with_index names index body)
 one_label names index ix body e = subst (λ (b : ItemBody). 0 < length (label_with_index names index b)) (sym e) (omega arith)
@@ -86,9 +79,7 @@ some_labels names nodes table some h = none_of names nodes h.definitions h.label
 
 -- the labels of a table, as `with_labels` makes them
 all_labels : (definitions : List (CowStr × ℕ)) → map entry_label (table_of definitions) ≡ with_labels [] (map entry_label definitions)
-all_labels definitions =
-    ap (map entry_label) (table_is definitions) ∙ map_put_all folding_of label_of folded itself entry_label (λ d. refl) [] definitions
-    ∙ sym (put_labels [] (map entry_label definitions))
+all_labels definitions = grind (arith, table_is, map_put_all, put_labels)
 
 -- the labels of nodes are those that the indices of their footnote definitions name
 body_labels : (d : Document) (index start : ℕ) (body : ItemBody)
@@ -100,12 +91,7 @@ node_labels : (d : Document) (index : ℕ) (nodes : List (ℕ × Item))
     → map (λ (p : List ℕ × ℕ). p.0) (labels_from d.names index nodes) ≡ labels_named d (node_footnotes nodes)
 unfolding labels_from
 node_labels d index [] = refl
-node_labels d index (n ∷ nodes) =
-    let first = body_labels d index n.1.start n.1.body in
-    let more = node_labels d (index + 1) nodes in
-    let left = map-append (λ (p : List ℕ × ℕ). p.0) (label_with_index d.names index n.1.body) (labels_from d.names (index + 1) nodes) in
-    let right = map-append (λ (f : ℕ × CowIndex). text_named d.names f.1) (footnote_in n.1.start n.1.body) (node_footnotes nodes) in
-    cc
+node_labels d index (n ∷ nodes) = grind (arith, body_labels, map-append, node_labels d (index + 1) nodes)
 
 -- the table of the nodes of a derived tree
 pub same_footnotes : (d : Document) (nodes : List (ℕ × Item)) (tables : Tables) (table : List (CowStr × ℕ)) → Derives d nodes tables

@@ -1,10 +1,9 @@
 -- The range of an info string has its bytes.
-use Rattle.std.proofs.Common.{◌≡◌, ℕ, ◌+◌, ◌-◌, ◌<◌, ◌&&◌, not, Bool, true, false, nat_le, List, [], ◌∷◌, length, take, drop, slice_index, Some, None, refl}
-use Rattle.std.proofs.Common.{sym, ap, subst, ◌∙◌, arith, if◌then◌else◌, slice_range, eqb-true, true≢false, take-take, drop-drop, length-take-le}
-use Rattle.first_pass_grammar.proofs.Common.{prefix_len, suffix_len, suffix_len-le-length, none-some, same_Some, backquote, tilde, ascii_end, Item}
-use Rattle.first_pass_grammar.proofs.Common.{is_white, is_white_or_line_end, begins, line_len, line_len-fits, run_len, code_fence, trimmed, info_string}
-use Rattle.first_pass_grammar.proofs.Common.{NamesInfo, IsFencedCode, Document, Place, some_if}
-use Rattle.first_pass_scan.specs.LeafLines.{has_backquote}
+use Rattle.std.proofs.Common.{◌≡◌, ℕ, ◌+◌, ◌-◌, ◌<◌, Bool, true, List, length, take, drop, slice_index, Option, Some, None, sym, ap, ◌∙◌, arith}
+use Rattle.std.proofs.Common.{if◌then◌else◌, slice_range, take-take, drop-drop, length-take-le}
+use Rattle.first_pass_grammar.proofs.Common.{cond_both, prefix_len, suffix_len, suffix_len-le-length, none-some, same_Some, backquote, tilde, ascii_end, Item}
+use Rattle.first_pass_grammar.proofs.Common.{is_white, is_white_or_line_end, begins, first_byte, line_len, line_len-fits, run_len, code_fence, trimmed}
+use Rattle.first_pass_grammar.proofs.Common.{info_string, IsFencedCode, Document, Place, some_if}
 use Rattle.first_pass_places.specs.AttributePlaces.{range_of}
 use Rattle.first_pass_places.specs.InfoStrings.{bytes_in, fence_end, info_start, info_range}
 use Rattle.first_pass_places.specs.NamePlaces.{FirstIsReadFromText}
@@ -52,10 +51,6 @@ info_found text start run white next trailing run_is white_is next_is trailing_i
     (ap (range_of from) long ∙ ap (λ bs. range_of from (from + length (trimmed (take (line_len bs) bs)))) there)
 
 -- a code fence is the run of its first byte, which is ASCII
-pub begins_with : (c : ℕ) (bs : List ℕ) → begins c bs ≡ true → c ≡ slice_index bs 0
-begins_with c [] h = absurd (true≢false (sym h))
-begins_with c (b ∷ bs) h = sym (eqb-true b c h)
-
 pub record IsFence (bs : List ℕ) (n : ℕ) : Type 0 where
   pub run : n ≡ run_len (slice_index bs 0) bs
   pub ascii : slice_index bs 0 < ascii_end
@@ -63,27 +58,18 @@ pub record IsFence (bs : List ℕ) (n : ℕ) : Type 0 where
 fence_of : (c : ℕ) (bs : List ℕ) (t : Bool) (fence : ℕ × ℕ) → c < ascii_end → begins c bs ≡ true → (if t then Some (run_len c bs, c) else None) ≡ Some fence
     → IsFence bs fence.0
 fence_of c bs t fence small begun h =
-    let first = begins_with c bs begun in
+    let first = sym (first_byte c bs 0 begun).1 in
     let size = ap (λ (p : ℕ × ℕ). p.0) (same_Some (run_len c bs, c) fence (some_if t (Some (run_len c bs, c)) fence h).1) in
     record { run = sym size ∙ ap (λ k. run_len k bs) first; ascii = omega (arith, first, small) }
 
-fence_by : (t u v w : Bool) (bs : List ℕ) (fence : ℕ × ℕ) → begins backquote bs ≡ t → begins tilde bs ≡ v
-    → (if t then (if u then Some (run_len backquote bs, backquote) else None)
-    else (if v then (if w then Some (run_len tilde bs, tilde) else None) else None)) ≡ Some fence → IsFence bs fence.0
-fence_by true u v w bs fence a b h = fence_of backquote bs u fence (omega arith) a h
-fence_by false u true w bs fence a b h = fence_of tilde bs w fence (omega arith) b h
-fence_by false u false w bs fence a b h = absurd (none-some fence h)
-
 pub fence_is : (bs : List ℕ) (fence : ℕ × ℕ) → code_fence bs ≡ Some fence → IsFence bs fence.0
 unfolding code_fence
-fence_is bs fence h =
-    fence_by (begins backquote bs) (nat_le 3 (run_len backquote bs) && not (has_backquote (drop (run_len backquote bs) bs))) (begins tilde bs)
-    (nat_le 3 (run_len tilde bs)) bs fence refl refl h
+fence_is bs fence =
+    let P : Option (ℕ × ℕ) → Type 0 = λ o. o ≡ Some fence → IsFence bs fence.0 in
+    cond_both (begins backquote bs) _ _ P (λ begun. fence_of backquote bs _ fence (omega arith) begun)
+    (λ _. cond_both (begins tilde bs) _ _ P (λ begun. fence_of tilde bs _ fence (omega arith) begun) (λ _ h. absurd (none-some fence h)))
 
 -- the info string that a fenced code block names is that of its range
 pub fenced_is_read : (d : Document) (start count byte : ℕ) (places : List Place) (e : ℕ) (items : List (ℕ × Item))
     → code_fence (drop start d.text) ≡ Some (count, byte) → IsFencedCode d start count places e items → FirstIsReadFromText d items
-fenced_is_read d start count byte places e items fence is =
-    let same : info_string (drop (start + count) d.text) ≡ bytes_in d.text (info_range d.text start) =
-    ap (λ k. info_string (drop (start + k) d.text)) (fence_is (drop start d.text) (count, byte) fence).run ∙ sym (info_bytes d.text start) in
-    subst (FirstIsReadFromText d) (sym is.items_are) (subst (NamesInfo d.names is.info) same is.names)
+fenced_is_read d start count byte places e items fence is = grind (arith, fence_is, info_bytes)

@@ -1,15 +1,10 @@
 pub mod BlockPlaces
+pub mod DerivedNodes
 pub mod FootnotePlaces
-pub mod FootnoteRows
 pub mod FootnoteTables
 pub mod HeadingPlaces
 pub mod InfoFacts
-pub mod LabelPlaces
 pub mod MarkedBlocks
-pub mod MarkedNodes
 pub mod PlacedWords
 pub mod RangeBoundaries
-pub mod SetextPlaces
-pub mod TokenBraces
-pub mod WordBoundaries
 pub mod WordPlaces

@@ -2,8 +2,8 @@
 -- the second byte of each footnote definition, the `^`. The index of each footnote definition names its label.
 use Rattle.std.proofs.Common.{◌≡◌, ℕ, ◌+◌, List, [], ◌∷◌, Option, Some, None, MatchOption, arith, unwrap_or, IsCharBoundary, inl, inr, refl, sym, ap, subst}
 use Rattle.std.proofs.Common.{◌∙◌, option_map}
-use Rattle.first_pass_grammar.proofs.Common.{text_of, CowStr, Alignment, HeadingLevel, Item, ItemBody, Options, Rest, Place, offset, lines_at, hrule_len}
-use Rattle.first_pass_grammar.proofs.Common.{code_fence, atx_level, begins_footnote_mark, nothing, Opener, FootnoteMarker, Head, label_of, Context}
+use Rattle.first_pass_grammar.proofs.Common.{text_of, CowStr, Alignment, HeadingLevel, Item, ItemBody, Options, Rest, Place, offset, lines_at}
+use Rattle.first_pass_grammar.proofs.Common.{code_fence, begins_footnote_mark, nothing, Opener, FootnoteMarker, Head, label_of, Context}
 use Rattle.first_pass_grammar.proofs.Common.{footnote_columns, Tables, Derives, footnote_head_at, footnote_prefix, NamesLabel, label_bytes, Kind, Blank}
 use Rattle.first_pass_grammar.proofs.Common.{IndentedCode, Metadata, HtmlToEnd, HtmlToBlank, ThematicBreak, AtxHeading, FencedCode, LinkDefinitions}
 use Rattle.first_pass_grammar.proofs.Common.{all_taken, unindented, heading_or, rule_or, fence_or, first_kind, IsKindBy, IsKind, Document, around}
@@ -57,8 +57,7 @@ fence_by : (options : Options) (r : Rest) (o : Option Kind) (count byte : ℕ) �
     → (found : ℕ × ℕ) × (code_fence (all_taken r).left ≡ Some found)
 fence_by options r (Some first) count byte e is = absurd (no_first options r count byte (e ∙ ap (λ (k : Kind). Some k) (sym is)))
 fence_by options r None count byte e (inl (n, begins, is)) = absurd cc
-fence_by options r None count byte e (inr (none, is)) =
-    last_by (hrule_len (all_taken r).left) (atx_level (all_taken r).left) (code_fence (all_taken r).left) count byte is
+fence_by options r None count byte e (inr (none, is)) = grind (arith, last_by)
 
 no_label : (d : Document) (start : ℕ) (opener : Opener) → label_of opener ≡ [] → IsReadOpener d start opener
 no_label d start (FootnoteMarker columns index label) h = cc
@@ -94,11 +93,9 @@ module _ (d : Document) where
   kind_first path p lines HtmlToBlank o fence (items, is, e) = subst (LeafHolds Marked) (sym e) (rw is.items_are (λ b. b))
   kind_first path p lines (ThematicBreak size) o fence e = subst (LeafHolds Marked) (sym e) (λ b. b)
   kind_first path p lines (AtxHeading level) o fence (index, chain, stop, is, e) = subst (LeafHolds Marked) (sym e) (λ b. b)
-  kind_first path p lines (FencedCode count byte) o fence (items, is, e) =
-      subst (LeafHolds Marked) (sym e) (rw is.items_are (λ b. fence count byte refl))
+  kind_first path p lines (FencedCode count byte) o fence (items, is, e) = grind arith
   kind_first path p lines LinkDefinitions o fence (xs, Ended q left, run, e) = subst (LeafHolds Marked) (sym e) tt
-  kind_first path p lines LinkDefinitions o fence (xs, FlowsOn q more, run, (t, is, e)) =
-      subst (LeafHolds Marked) (sym e) (text_first path q None more t is)
+  kind_first path p lines LinkDefinitions o fence (xs, FlowsOn q more, run, (t, is, e)) = grind (arith, text_first)
   kind_first path p lines Paragraph o fence (t, is, e) = subst (LeafHolds Marked) (sym e) (text_first path (unindented p) None lines t is)
 
   fence_here : (path : List Container) (p : Place) (kind : Kind) (count byte : ℕ) → IsAt d.text p → IsKind d.options p.rest kind

@@ -1,16 +1,16 @@
 -- The attributes that `attributes_from_places` reads at the ranges from `attribute_ranges` are those of the words of
 -- the block.
-use Rattle.std.proofs.Common.{◌≡◌, ℕ, suc, ◌+◌, ◌-◌, ◌<◌, ◌≤◌, ◌==◌, cond, Bool, true, false, nat_lt, List, [], ◌∷◌, ◌++◌, All, length, take, drop, map}
-use Rattle.std.proofs.Common.{filter, position, slice_index, Option, Some, None, refl, sym, ap, subst, ◌∙◌, arith, inl, inr, if◌then◌else◌, slice_range}
-use Rattle.std.proofs.Common.{eqb-true, le-ltb, ltb-false, ltb-true, ne_eqb, drop-drop, take-append-drop, take-take}
-use Rattle.first_pass_grammar.proofs.Common.{option_map_or, Range, cases_Bool, nat_tests, drop-take, All-head, All-tail, number_sign, full_stop}
+use Rattle.std.proofs.Common.{◌≡◌, ℕ, ◌+◌, ◌-◌, ◌<◌, ◌≤◌, ◌==◌, cond, Bool, true, false, nat_lt, List, [], ◌∷◌, ◌++◌, All, length, take, drop, map}
+use Rattle.std.proofs.Common.{filter, position, slice_index, Option, Some, None, refl, sym, ap, subst, ◌∙◌, arith, slice_range, eqb-true, le-ltb}
+use Rattle.std.proofs.Common.{ltb-false, ltb-true, drop-drop, take-append-drop, take-take}
+use Rattle.first_pass_grammar.proofs.Common.{option_map_or, Range, cases_Bool, cond_both, nat_tests, drop-take, All-head, All-tail, number_sign, full_stop}
 use Rattle.first_pass_grammar.proofs.Common.{equals_sign, Item, begins, is_between_words, no_attributes, attributes_of}
 use Rattle.std.specs.List.{slice_split, onto_first}
 use Rattle.std.proofs.lemmas.List.Elements.{filter_passes}
 use Rattle.std.proofs.lemmas.List.Quantifiers.{position-Some}
-use Rattle.first_pass_attributes.specs.Attributes.{is_attribute_word, words, marked, gives_key, key_and_value}
-use Rattle.first_pass_attributes.specs.Attributes.{with_words}
-use Rattle.first_pass_places.specs.declared.attributes.AttributeKind.TheVariants.{Id, Class, Key}
+use Rattle.first_pass_attributes.specs.Attributes.{is_attribute_word, words, marked, gives_key, key_and_value, with_words}
+use Rattle.first_pass_links.proofs.Labels.{begins-first}
+use Rattle.first_pass_places.specs.declared.attributes.AttributeKind.TheVariants.{Key}
 use Rattle.first_pass_places.specs.declared.attributes.AttributeRanges.{AttributeRanges}
 use Rattle.first_pass_places.specs.AttributeBlockPlaces.{attribute_block_range}
 use Rattle.first_pass_places.specs.AttributePlaces.{range_of, is_word_range, ranges_from, word_ranges, place_of, key_with, key_place, attribute_place}
@@ -46,43 +46,6 @@ first_bytes text s e k fits =
     let size : s + k - s ≡ k = omega arith in
     ap (λ n. take n (drop s text)) size ∙ sym (take-take k (e - s) (drop s text) (omega (arith, fits)))
 
--- what a word begins with
-begins_first : (c : ℕ) (word : List ℕ) → 0 < c → begins c word ≡ (slice_index word 0 == c)
-begins_first c [] some = sym (ne_eqb 0 c (λ h. omega (arith, h, some)))
-begins_first c (b ∷ bs) some = refl
-
--- a word, and what it begins with
-record IsMarked (text : List ℕ) (range : Range ℕ) (sign stop : Bool) : Type 0 where
-  order : range.start + 1 < range.«end»
-  begins_sign : begins number_sign (bytes_in text range) ≡ sign
-  begins_stop : begins full_stop (bytes_in text range) ≡ stop
-
--- an id
-id_same : (text : List ℕ) (range : Range ℕ) (places : List AttributeRanges) (ws : List (List ℕ)) → IsMarked text range true false → AreSame text places ws
-    → AreSame text (place_of Id (range_of (range.start + 1) range.«end») ∷ places) (bytes_in text range ∷ ws)
-id_same text range places ws is same =
-    let word : List ℕ = bytes_in text range in
-    let order = is.order in
-    let name = later_bytes text range.start range.«end» 1 (omega (arith, order)) in
-    record {
-      ids = rw is.begins_sign (ap (λ (l : List ℕ). l ∷ ids_at text places) name ∙ ap (λ (ls : List (List ℕ)). drop 1 word ∷ ls) same.ids);
-      classes = rw is.begins_stop same.classes;
-      keys = rw is.begins_sign same.keys;
-    }
-
--- a class
-class_same : (text : List ℕ) (range : Range ℕ) (places : List AttributeRanges) (ws : List (List ℕ)) → IsMarked text range false true → AreSame text places ws
-    → AreSame text (place_of Class (range_of (range.start + 1) range.«end») ∷ places) (bytes_in text range ∷ ws)
-class_same text range places ws is same =
-    let word : List ℕ = bytes_in text range in
-    let order = is.order in
-    let name = later_bytes text range.start range.«end» 1 (omega (arith, order)) in
-    record {
-      ids = rw is.begins_sign same.ids;
-      classes = rw is.begins_stop (ap (λ (l : List ℕ). l ∷ classes_at text places) name ∙ ap (λ (ls : List (List ℕ)). drop 1 word ∷ ls) same.classes);
-      keys = rw (is.begins_sign, is.begins_stop) same.keys;
-    }
-
 -- a key, with or without a value
 pair_by : (text : List ℕ) (range : Range ℕ) (o : Option ℕ) → position (λ b. b == equals_sign) (bytes_in text range) ≡ o
     → let word : List ℕ = bytes_in text range in
@@ -106,43 +69,39 @@ kind_by : (range : Range ℕ) (o : Option ℕ) → (option_map_or (key_with rang
 kind_by range None = refl
 kind_by range (Some at) = refl
 
-key_same : (text : List ℕ) (range : Range ℕ) (places : List AttributeRanges) (ws : List (List ℕ)) → IsMarked text range false false → AreSame text places ws
-    → AreSame text (key_place text range ∷ places) (bytes_in text range ∷ ws)
-key_same text range places ws is same =
-    let word : List ℕ = bytes_in text range in
-    let place : AttributeRanges = key_place text range in
-    let kind : place.kind ≡ Key = kind_by range (position (λ b. b == equals_sign) word) in
-    record {
-      ids = rw (kind, is.begins_sign) same.ids;
-      classes = rw (kind, is.begins_stop) same.classes;
-      keys = rw (kind, is.begins_sign, is.begins_stop) (ap (λ (x : List ℕ × Option (List ℕ)). x ∷ keys_at text places) (pair_is text range)
-          ∙ ap (λ (xs : List (List ℕ × Option (List ℕ))). key_and_value word ∷ xs) same.keys);
-    }
-
 -- one word more
-more_by : (text : List ℕ) (range : Range ℕ) (places : List AttributeRanges) (ws : List (List ℕ)) (t v : Bool) → IsMarked text range t v
-    → (slice_index text range.start == number_sign) ≡ t → (slice_index text range.start == full_stop) ≡ v → AreSame text places ws
-    → AreSame text ((if t then place_of Id (range_of (range.start + 1) range.«end»)
-    else (if v then place_of Class (range_of (range.start + 1) range.«end») else key_place text range)) ∷ places) (bytes_in text range ∷ ws)
-more_by text range places ws true true is e f same =
-    absurd (omega (arith, eqb-true (slice_index text range.start) number_sign e, eqb-true (slice_index text range.start) full_stop f))
-more_by text range places ws true false is e f same = id_same text range places ws is same
-more_by text range places ws false true is e f same = class_same text range places ws is same
-more_by text range places ws false false is e f same = key_same text range places ws is same
-
 more_same : (text : List ℕ) (range : Range ℕ) (places : List AttributeRanges) (ws : List (List ℕ)) → range.start + 1 < range.«end» → AreSame text places ws
     → AreSame text (attribute_place text range ∷ places) (bytes_in text range ∷ ws)
 more_same text range places ws order same =
     let word : List ℕ = bytes_in text range in
+    let b : ℕ = slice_index text range.start in
     let place : range.start + 0 ≡ range.start = omega arith in
-    let first : slice_index word 0 ≡ slice_index text range.start =
-    part_at text range.start (range.«end» - range.start) 0 (omega (arith, order)) ∙ ap (slice_index text) place in
-    more_by text range places ws (slice_index text range.start == number_sign) (slice_index text range.start == full_stop)
-    (record {
-      order = order;
-      begins_sign = begins_first number_sign word (omega arith) ∙ ap (λ b. b == number_sign) first;
-      begins_stop = begins_first full_stop word (omega arith) ∙ ap (λ b. b == full_stop) first;
-    }) refl refl same
+    let first : slice_index word 0 ≡ b = part_at text range.start (range.«end» - range.start) 0 (omega (arith, order)) ∙ ap (slice_index text) place in
+    let name = later_bytes text range.start range.«end» 1 (omega (arith, order)) in
+    let kind : (key_place text range).kind ≡ Key = kind_by range (position (λ b. b == equals_sign) word) in
+    let sign : begins number_sign word ≡ (b == number_sign) = begins-first number_sign refl word ∙ ap (λ k. k == number_sign) first in
+    let stop : begins full_stop word ≡ (b == full_stop) = begins-first full_stop refl word ∙ ap (λ k. k == full_stop) first in
+    let P : AttributeRanges → Type 0 = λ place. AreSame text (place ∷ places) (word ∷ ws) in
+    cond_both (b == number_sign) _ _ P
+    (λ t.
+    let other : begins full_stop word ≡ false = stop ∙ ap (λ k. k == full_stop) (eqb-true b number_sign t) in
+    record {
+      ids = rw (sign ∙ t) (ap (λ (l : List ℕ). l ∷ ids_at text places) name ∙ ap (λ (ls : List (List ℕ)). drop 1 word ∷ ls) same.ids);
+      classes = rw other same.classes;
+      keys = rw (sign ∙ t) same.keys;
+    })
+    (λ f. cond_both (b == full_stop) _ _ P
+    (λ t. record {
+      ids = rw (sign ∙ f) same.ids;
+      classes = rw (stop ∙ t) (ap (λ (l : List ℕ). l ∷ classes_at text places) name ∙ ap (λ (ls : List (List ℕ)). drop 1 word ∷ ls) same.classes);
+      keys = rw (sign ∙ f, stop ∙ t) same.keys;
+    })
+    (λ v. record {
+      ids = rw (kind, sign ∙ f) same.ids;
+      classes = rw (kind, stop ∙ v) same.classes;
+      keys = rw (kind, sign ∙ f, stop ∙ v) (ap (λ (x : List ℕ × Option (List ℕ)). x ∷ keys_at text places) (pair_is text range)
+          ∙ ap (λ (xs : List (List ℕ × Option (List ℕ))). key_and_value word ∷ xs) same.keys);
+    }))
 
 all_same : (text : List ℕ) (ranges : List (Range ℕ)) → All (λ range. is_word_range range ≡ true) ranges
     → AreSame text (map (attribute_place text) ranges) (map (bytes_in text) ranges)
@@ -159,12 +118,9 @@ AreAt text at (part ∷ parts) = (take (length part) (drop at text) ≡ part) ×
 
 step_at : (text rest : List ℕ) (at b : ℕ) (t : Bool) (parts : List (List ℕ)) → drop at text ≡ b ∷ rest → drop (at + 1) text ≡ rest → AreAt text (at + 1) parts
     → AreAt text at (cond t ([] ∷ parts) (onto_first b parts))
-step_at text rest at b true parts e f h =
-    let next : at + 1 ≡ at + 0 + 1 = omega arith in (refl, subst (λ n. AreAt text n parts) next h)
+step_at text rest at b true parts e f h = grind arith
 step_at text rest at b false [] e f h = (ap (take 1) e, tt)
-step_at text rest at b false (part ∷ parts) e f h =
-    let next : at + 1 + length part + 1 ≡ at + suc (length part) + 1 = omega arith in
-    (ap (take (suc (length part))) e ∙ ap (λ l. b ∷ l) (ap (take (length part)) (sym f) ∙ h.0), subst (λ n. AreAt text n parts) next h.1)
+step_at text rest at b false (part ∷ parts) e f h = grind arith
 
 split_at : (text : List ℕ) (at : ℕ) (bs tail : List ℕ) → drop at text ≡ bs ++ tail → AreAt text at (slice_split is_between_words bs)
 split_at text at [] tail e = (refl, tt)
@@ -194,10 +150,7 @@ ranges_have text at (part ∷ parts) h =
 -- dropping empty parts first does not change which words have two bytes or more
 filter_twice : (p q : List ℕ → Bool) → ((x : List ℕ) → q x ≡ false → p x ≡ false) → (xs : List (List ℕ)) → filter p (filter q xs) ≡ filter p xs
 filter_twice p q none [] = refl
-filter_twice p q none (x ∷ xs) = elim (cases_Bool (q x)) as (λ _. filter p (filter q (x ∷ xs)) ≡ filter p (x ∷ xs)) [
-  | inl kept ↦ rw kept (ap (λ (l : List (List ℕ)). cond (p x) (x ∷ l) l) (filter_twice p q none xs))
-  | inr dropped ↦ rw (dropped, none x dropped) (filter_twice p q none xs)
-]
+filter_twice p q none (x ∷ xs) = grind (arith, cases_Bool, filter_twice p q none xs)
 
 some_long : (n : ℕ) → nat_lt 0 n ≡ false → nat_lt 1 n ≡ false
 some_long n e = let none = ltb-false 0 n e in le-ltb 1 n (omega (arith, none))
@@ -206,8 +159,7 @@ some_long n e = let none = ltb-false 0 n e in le-ltb 1 n (omega (arith, none))
 same_attributes : (text : List ℕ) (places : List AttributeRanges) (ws : List (List ℕ)) → AreSame text places ws
     → attributes_from_places text places ≡ with_words no_attributes ws
 unfolding with_words
-same_attributes text places ws same =
-    rw (same.ids, same.classes, same.keys) refl
+same_attributes text places ws same = grind arith
 
 block_attributes : (text : List ℕ) (block : Range ℕ) → attributes_from_places text (places_in text block) ≡ attributes_of (bytes_in text block)
 unfolding attributes_of words word_ranges
@@ -228,5 +180,4 @@ block_attributes text block =
 -- the attributes of a heading
 pub placed_attributes : (text : List ℕ) (x : Item) (block : Range ℕ) → attribute_block_range text x ≡ Some block
     → attributes_from_places text (attribute_ranges text x) ≡ attributes_of (bytes_in text block)
-placed_attributes text x block e =
-    ap (λ (o : Option (Range ℕ)). attributes_from_places text (option_map_or (places_in text) o [])) e ∙ block_attributes text block
+placed_attributes text x block e = grind (arith, block_attributes)

@@ -1,32 +1,29 @@
 -- In a text in UTF-8, both ends of the range of an info string, a label or attributes are on character boundaries.
-use Rattle.std.proofs.Common.{◌≡◌, ℕ, zero, suc, ◌+◌, ◌-◌, ◌<◌, ◌≤◌, ◌==◌, not, Bool, true, false, List, [], ◌∷◌, All, length, take, drop, min, reverse}
-use Rattle.std.proofs.Common.{get_or, slice_index, Option, Some, None, IfSome, IsUtf8, IsCharBoundary, refl, sym, ap, subst, ◌∙◌, arith, inl, inr}
-use Rattle.std.proofs.Common.{if◌then◌else◌, eqb-true, drop-drop, get_or-drop, get_or-take, length-drop, length-take, length-take-le}
+use Rattle.std.proofs.Common.{◌≡◌, ℕ, zero, suc, ◌+◌, ◌-◌, ◌<◌, ◌≤◌, ◌==◌, not, Bool, true, List, [], ◌∷◌, All, length, take, drop, min, reverse, get_or}
+use Rattle.std.proofs.Common.{slice_index, Option, Some, IfSome, IsUtf8, IsCharBoundary, refl, sym, ap, subst, ◌∙◌, arith, inl, inr, eqb-true}
+use Rattle.std.proofs.Common.{drop-drop, get_or-drop, get_or-take, length-drop, length-take, length-take-le}
 use Rattle.first_pass_grammar.proofs.Common.{prefix_len, suffix_len, Range, cond_both, and_parts, cases_lt, nat_tests, get_or-reverse, length-reverse}
-use Rattle.first_pass_grammar.proofs.Common.{All-cons, All-nil, prefix_len_stops, suffix_len-le-length, IsCharBoundary-after_ascii}
+use Rattle.first_pass_grammar.proofs.Common.{All-nil, prefix_len_stops, suffix_len-le-length, IsCharBoundary-after_ascii}
 use Rattle.first_pass_grammar.proofs.Common.{IsCharBoundary-before_ascii, IsCharBoundary-end, left_bracket, circumflex, left_brace, right_brace, ascii_end}
-use Rattle.first_pass_grammar.proofs.Common.{CowIndex, Item, ItemBody, FencedCodeBlock, FootnoteDefinition, is_white, is_white_or_line_end, begins}
-use Rattle.first_pass_grammar.proofs.Common.{line_len, line_place, line_len-fits, line_is_place, white_keeps, run_len, code_fence, unescaped_upto}
-use Rattle.first_pass_grammar.proofs.Common.{begins_escape, begins_footnote_mark, is_bracket, label_len, trimmed, info_string}
+use Rattle.first_pass_grammar.proofs.Common.{CowIndex, Item, ItemBody, FencedCodeBlock, FootnoteDefinition, is_white, is_white_or_line_end, begins, line_len}
+use Rattle.first_pass_grammar.proofs.Common.{line_place, line_len-fits, line_is_place, white_keeps, run_len, code_fence, begins_footnote_mark, first_byte}
+use Rattle.first_pass_grammar.proofs.Common.{is_bracket, label_len, trimmed, info_string}
 use Rattle.std.proofs.lemmas.Bool.{not-false}
 use Rattle.first_pass_lines.proofs.PlaceFacts.{prefix_keeps}
-use Rattle.first_pass_places.specs.AttributeBlockPlaces.{attribute_block_range, block_range, has_attributes, upto_last}
+use Rattle.first_pass_links.proofs.Destinations.{StopsAt, first-drop, upto_stops}
+use Rattle.first_pass_places.specs.AttributeBlockPlaces.{attribute_block_range, block_range, upto_last}
 use Rattle.first_pass_places.specs.FootnoteLabels.{label_range}
 use Rattle.first_pass_places.specs.InfoStrings.{fence_end, info_range}
 use Rattle.first_pass_places.specs.NamePlaces.{HasWholeStart, HasNameOnBoundaries, HaveWholeStarts, name_range, name_range_by}
 use Rattle.first_pass_places.specs.RangeEnds.{IsAsciiAt, EndsAreBoundaries}
 use Rattle.first_pass_tokens.proofs.OrderLemmas.{trimmed_boundary}
 use Rattle.first_pass_places.proofs.BlockPlaces.{part_at}
-use Rattle.first_pass_places.proofs.InfoFacts.{begins_with, fence_is, trimmed_length}
-
--- the first byte after an offset
-first_at : (text : List ℕ) (start : ℕ) → slice_index (drop start text) 0 ≡ slice_index text start
-first_at text start = let same : start + 0 ≡ start = omega arith in get_or-drop start text 0 0 ∙ ap (slice_index text) same
+use Rattle.first_pass_places.proofs.InfoFacts.{fence_is, trimmed_length}
 
 -- a code fence begins with ASCII
 pub ascii_fence : (text : List ℕ) (start : ℕ) (fence : ℕ × ℕ) → code_fence (drop start text) ≡ Some fence → IsAsciiAt text start
 ascii_fence text start fence h =
-    let here = first_at text start in
+    let here = first-drop start text in
     let small = (fence_is (drop start text) fence h).ascii in
     omega (arith, small, here)
 
@@ -45,15 +42,15 @@ around_ascii text start n k u less small =
 pub ascii_footnote : (text : List ℕ) (start : ℕ) → begins_footnote_mark (drop start text) ≡ true → IsAsciiAt text (start + 1)
 ascii_footnote text start h =
     let rest : List ℕ = drop 1 (drop start text) in
-    let byte : circumflex ≡ slice_index rest 0 = begins_with circumflex rest (and_parts (begins left_bracket (drop start text)) (begins circumflex rest) h).1 in
-    let here : slice_index rest 0 ≡ slice_index text (start + 1) = ap (λ l. slice_index l 0) (drop-drop 1 start text) ∙ first_at text (start + 1) in
+    let byte = (first_byte circumflex rest 0 (and_parts (begins left_bracket (drop start text)) (begins circumflex rest) h).1).1 in
+    let here : slice_index rest 0 ≡ slice_index text (start + 1) = ap (λ l. slice_index l 0) (drop-drop 1 start text) ∙ first-drop (start + 1) text in
     omega (arith, byte, here)
 
 -- the end of a code fence whose byte is ASCII
 fence_between : (text : List ℕ) (start : ℕ) → IsUtf8 text → start ≤ length text → IsAsciiAt text start → IsCharBoundary text (fence_end text start)
 fence_between text start u within small =
     let c : ℕ = slice_index (drop start text) 0 in
-    let here : c ≡ slice_index text start = first_at text start in
+    let here : c ≡ slice_index text start = first-drop start text in
     let ascii : (k : ℕ) → (k == c) ≡ true → k < ascii_end = λ k h. let e = eqb-true k c h in omega (arith, e, here, small) in
     let e : start + (0 + run_len c (drop start text)) ≡ fence_end text start = omega arith in
     let b : IsCharBoundary text start = (within, λ less big. omega (arith, small, big)) in
@@ -88,30 +85,6 @@ info_between text start u within small =
     let last = trimmed_between text (at + white) u first in
     (first, subst (λ (bs : List ℕ). IsCharBoundary text (at + white + length (trimmed (take (line_len bs) bs)))) same last)
 
--- `n` is the length of the bytes, or the byte at `n` meets the test
-abbrev StopsAt : (ℕ → Bool) → List ℕ → ℕ → Type 0
-StopsAt stops bs n = (n ≤ length bs) × (n < length bs → stops (slice_index bs n) ≡ true)
-
-stops_later : (stops : ℕ → Bool) (b : ℕ) (bs : List ℕ) (n : ℕ) → StopsAt stops bs n → StopsAt stops (b ∷ bs) (1 + n)
-stops_later stops b bs n h =
-    let fits = h.0 in
-    let one : 1 + n ≡ suc n = omega arith in
-    (omega (arith, fits), λ less. ap (λ k. stops (slice_index (b ∷ bs) k)) one ∙ h.1 (omega (arith, less)))
-
-stops_by : (t v : Bool) (stops : ℕ → Bool) (b : ℕ) (bs : List ℕ) (m n : ℕ) → stops b ≡ v → StopsAt stops bs m → StopsAt stops bs n
-    → StopsAt stops (b ∷ bs) (if t then 1 + m else (if v then 0 else 1 + n))
-stops_by true v stops b bs m n e after next = stops_later stops b bs m after
-stops_by false true stops b bs m n e after next = (omega arith, λ less. e)
-stops_by false false stops b bs m n e after next = stops_later stops b bs n next
-
-upto_stops : (stops : ℕ → Bool) (n : ℕ) (bs : List ℕ) → StopsAt stops bs (unescaped_upto stops n bs)
-unfolding unescaped_upto
-upto_stops stops n [] = (omega arith, λ less. absurd (omega (arith, less)))
-upto_stops stops (suc n) (b ∷ bs) = stops_later stops b bs (unescaped_upto stops n bs) (upto_stops stops n bs)
-upto_stops stops zero (b ∷ bs) =
-    stops_by (begins_escape (b ∷ bs)) (stops b) stops b bs (unescaped_upto stops 1 bs) (unescaped_upto stops zero bs) refl (upto_stops stops 1 bs)
-    (upto_stops stops zero bs)
-
 -- the label of a footnote
 label_start : (text : List ℕ) (start : ℕ) → IsUtf8 text → IsAsciiAt text (start + 1) → IsCharBoundary text (min (length text) (start + 2))
 label_start text start u small = elim (cases_lt (start + 1) (length text)) as (λ _. IsCharBoundary text (min (length text) (start + 2))) [
@@ -139,8 +112,7 @@ label_end text at within =
 
 pub label_between : (text : List ℕ) (start : ℕ) → IsUtf8 text → IsAsciiAt text (start + 1) → EndsAreBoundaries text (label_range text start)
 unfolding label_range
-label_between text start u small =
-    let first = label_start text start u small in (first, label_end text (min (length text) (start + 2)) first.0)
+label_between text start u small = grind (arith, label_start, label_end)
 
 -- if `upto_last` is not 0, the byte before it is in the list, and equals `c`
 last_at : (c : ℕ) (bs : List ℕ) (n : ℕ) → upto_last c bs ≡ suc n → (n < length bs) × (slice_index bs n ≡ c)
@@ -190,9 +162,7 @@ block_between text start e u b =
 
 pub attributes_between : (text : List ℕ) (x : Item) → IsUtf8 text → IsCharBoundary text x.start
     → IfSome (attribute_block_range text x) (λ range. EndsAreBoundaries text range)
-attributes_between text x u b =
-    cond_both (has_attributes x.body) (Some (block_range text x.start x.«end»)) None (λ o. IfSome o (λ range. EndsAreBoundaries text range))
-    (λ _. block_between text x.start x.«end» u b) (λ _. tt)
+attributes_between text x u b = grind (arith, cond_both, block_between)
 
 -- what a node names
 name_by : (body : ItemBody) (text : List ℕ) (x : Item) → IsUtf8 text → x.start ≤ length text → HasWholeStart body text x.start
@@ -203,17 +173,13 @@ name_by _ text x u within mark = attributes_between text x u mark
 
 pub name_between : (text : List ℕ) (x : Item) (found : Option (Range ℕ)) → found ≡ name_range text x → x.start ≤ x.«end» → x.«end» ≤ length text
     → IsUtf8 text → HasWholeStart x.body text x.start → IfSome found (λ range. EndsAreBoundaries text range)
-name_between text x found is order within u mark =
-    let starts : x.start ≤ length text = omega (arith, order, within) in
-    rw is (name_by x.body text x u starts mark)
+name_between text x found is order within u mark = grind (arith, name_by)
 
 -- what each of these nodes names
 pub names_between : (text : List ℕ) (nodes : List (ℕ × Item)) → IsUtf8 text → HaveWholeStarts text nodes
     → All (λ n. HasNameOnBoundaries text n.1) nodes
 names_between text [] u h = All-nil (λ (n : ℕ × Item). HasNameOnBoundaries text n.1)
-names_between text (n ∷ nodes) u h =
-    All-cons (λ (m : ℕ × Item). HasNameOnBoundaries text m.1) n nodes
-    (λ order within start. name_between text n.1 (name_range text n.1) refl order within u (h.0 start)) (names_between text nodes u h.1)
+names_between text (n ∷ nodes) u h = grind (arith, name_between, names_between text nodes u h.1)
 
 -- a node of another kind
 pub other_name : (body : ItemBody) (text : List ℕ) (x : Item) → ((ix : CowIndex) → body ≡ FencedCodeBlock ix → ⊥)

@@ -1,11 +1,10 @@
 -- The raw lines of a leaf block, one after the other.
 use Rattle.std.proofs.Common.{◌≡◌, ℕ, ◌+◌, ◌<◌, List, [], ◌∷◌, length, drop, slice_get, Option, Some, None, IsSome, IsUtf8, IsCharBoundary, refl, sym, ap}
 use Rattle.std.proofs.Common.{false, subst, ◌∙◌, arith, option_map}
-use Rattle.first_pass_grammar.proofs.Common.{Item, Options, Forest, added, line_len, Rest, Place, place_at, offset, line_end, line_rest, line_place}
-use Rattle.first_pass_grammar.proofs.Common.{with_tokens, chained, JoinsNone, add_tokens, with_tokens-chained, Names, Extends, Document, document}
-use Rattle.first_pass_grammar.proofs.Common.{block_with, Ranges, IsRawLine, AreRawLines, Extent, with_line, extent_to, Verdict, extent_by, extent, judged}
-use Rattle.first_pass_grammar.proofs.Common.{in_containers, lines_from, ItemBody, line_len-within, lines_at-line, lines_at-end, line_is_place}
-use Rattle.first_pass_grammar.proofs.Common.{line_end_boundary, at_rest, after}
+use Rattle.first_pass_grammar.proofs.Common.{Item, Options, Forest, added, line_len, Rest, Place, place_at, offset, line_end, line_rest, line_place, chained}
+use Rattle.first_pass_grammar.proofs.Common.{JoinsNone, with_tokens-chained, Names, Extends, Document, document, block_with, Ranges, IsRawLine, AreRawLines}
+use Rattle.first_pass_grammar.proofs.Common.{Extent, with_line, extent_to, Verdict, extent_by, extent, judged, lines_from, ItemBody, line_len-within}
+use Rattle.first_pass_grammar.proofs.Common.{lines_at-line, lines_at-end, line_is_place, line_end_boundary, at_rest, after}
 use Rattle.first_pass_grammar.specs.declared.kind.Container.{Container}
 use Rattle.first_pass_raw.specs.RawBlocks.{said, AppendsRaw, AppendsLines, after_line_at, extent_from}
 use Rattle.first_pass_open.specs.Path.{path_of, container_of, with_container, has_quote_after}
@@ -58,27 +57,12 @@ module _ {range : Ranges} {d : Document} {whole rest : Extent} {old now : Forest
   pub lines_more : (further : Extent) (p : Place) → JoinsNone old → rest ≡ with_line p further → (l : LineAppended range d p now)
       → LinesSoFar range (document d.text d.options l.named) whole further old l.new
   unfolding AreRawLines
-  lines_more further p apart is l = record {
-    chain = add_tokens s.chain l.line.items;
-    tree_is = l.line.tree_is ∙ ap (λ f. with_tokens f l.line.items) s.tree_is ∙ with_tokens-chained old s.chain l.line.items apart;
-    continues = λ more last f lines. s.continues more last (extends_both more l.named d.names f l.extends)
-        (subst (λ (x : Extent). AreRawLines range (document d.text d.options more) s.chain x.places last) (sym is)
-        (l.line.items, line_under l more f, lines));
-    end_is = s.end_is ∙ ap (λ (x : Extent). x.«end») is;
-    left_is = s.left_is ∙ ap (λ (x : Extent). x.left) is;
-  }
+  lines_more further p apart is l = grind (arith, with_tokens-chained, extends_both, line_under)
 
   -- after the last line
   pub lines_end : (e next : ℕ) → rest ≡ extent_to e (lines_from d.text next) → AppendsLines range d whole old now e next
   unfolding AreRawLines
-  lines_end e next is = record {
-    chain = s.chain;
-    tree_is = s.tree_is;
-    lines = λ more f. s.continues more s.chain f
-        (subst (λ ps. AreRawLines range (document d.text d.options more) s.chain ps s.chain) (sym (ap (λ (x : Extent). x.places) is)) refl);
-    end_is = sym (s.end_is ∙ ap (λ (x : Extent). x.«end») is);
-    left_is = sym (s.left_is ∙ ap (λ (x : Extent). x.left) is);
-  }
+  lines_end e next is = grind arith
 
   -- the containers around the block are the same while its lines are read
   pub lines_path : AreIn (length old.nodes) old.spine → path_of d.options now ≡ path_of d.options old
@@ -98,16 +82,7 @@ pub record IsLineAt (text : List ℕ) (at next : ℕ) : Type 0 where
 
 pub line_read : (text bytes : List ℕ) (at next : ℕ)
     → IsUtf8 text → IsCharBoundary text at → at < length text → bytes ≡ text → next ≡ at + line_len (drop at bytes) → IsLineAt text at next
-line_read text bytes at next u here within e f =
-    let is : next ≡ at + line_len (drop at text) = f ∙ ap (λ bs. at + line_len (drop at bs)) e in
-    let some = (line_len-within text at within).0 in
-    record {
-      here = here;
-      later = omega arith;
-      next_is = is;
-      lines = lines_at-line text at within ∙ ap (λ n. line_place at (drop at text) ∷ lines_from text n) (sym is);
-      boundary = subst (IsCharBoundary text) (sym is) (line_end_boundary text at u here within);
-    }
+line_read text bytes at next u here within e f = grind (arith, line_len-within, lines_at-line, line_end_boundary)
 
 -- After the prefixes of a path, a line has the same end.
 pub after_path : (text : List ℕ) (path : List Container) (at next : ℕ) (r : Rest)
@@ -127,10 +102,7 @@ extent_here : (text : List ℕ) (path : List Container) (judge : Place → Place
     → judged judge (line_place at (drop at text)) (option_map (at_rest (line_place at (drop at text))) o) ≡ v
     → extent_from text path judge at ≡ extent_by v (line_place at (drop at text)) (lines_from text next) (extent_from text path judge next)
 unfolding extent
-extent_here text path judge at next o v line goes is =
-    let first : Place = line_place at (drop at text) in
-    ap (extent (in_containers path judge) (length text)) line.lines ∙ ap (λ v. extent_by v first (lines_from text next) (extent_from text path judge next))
-    (ap (λ o. judged judge first (option_map (at_rest first) o)) goes ∙ is)
+extent_here text path judge at next o v line goes is = grind arith
 
 -- a line that does none of the others continues the block
 pub goes_by : (a : Answer) → ((e : ℕ) → ¬ (a ≡ Stops e)) → ((e : ℕ) → ¬ (a ≡ Closes e)) → ¬ (a ≡ IsLast) → a ≡ GoesOn

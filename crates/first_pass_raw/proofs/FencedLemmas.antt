@@ -1,13 +1,12 @@
 -- The closing fence, the info string and the lines of a fenced code block.
-use Rattle.std.proofs.Common.{◌≡◌, ℕ, ◌+◌, ◌-◌, ◌<◌, ◌≤◌, ◌==◌, ◌&&◌, not, Bool, nat_lt, nat_le, true, false, List, length, take, drop, Option, Some, None}
+use Rattle.std.proofs.Common.{◌≡◌, ℕ, ◌+◌, ◌-◌, ◌<◌, ◌≤◌, ◌==◌, not, Bool, nat_le, true, false, List, length, take, drop, Option, Some, None}
 use Rattle.std.proofs.Common.{is_some, slice_index_or, not-suc-le-zero, ◌∷◌, [], IsUtf8, IsCharBoundary, if◌then◌else◌, refl, sym, ap, subst, ◌∙◌, arith}
-use Rattle.std.proofs.Common.{length-drop, length-take-le, drop-drop, option_map, eqb-true, leb-false, lt-ltb, ne_eqb, take-take}
-use Rattle.first_pass_grammar.proofs.Common.{prefix_len, suffix_len, cond_both, cond-true, lt-leb, none-some, cond_some, backquote, tilde, ascii_end}
-use Rattle.first_pass_grammar.proofs.Common.{CowIndex, Item, FencedCodeBlock, Forest, is_content, is_white, is_white_or_line_end, begins, line_len, run_len}
+use Rattle.std.proofs.Common.{length-drop, length-take-le, drop-drop, option_map, eqb-true, leb-false, lt-ltb, take-take}
+use Rattle.first_pass_grammar.proofs.Common.{prefix_len, suffix_len, cond_both, cond-true, lt-leb, none-some, cond_some, ascii_end}
+use Rattle.first_pass_grammar.proofs.Common.{CowIndex, Item, FencedCodeBlock, Forest, is_content, is_white, is_white_or_line_end, line_len, run_len}
 use Rattle.first_pass_grammar.proofs.Common.{code_fence, closing_fence_len, Rest, indent, next_column, after_columns, line_place, place_at, offset}
-use Rattle.first_pass_grammar.proofs.Common.{IsPlaceOf, line_len-fits, all_columns_up_to, line_is_place, white_keeps, Names, Extends, all_taken, unindented}
+use Rattle.first_pass_grammar.proofs.Common.{IsPlaceOf, line_len-fits, all_columns_up_to, line_is_place, white_keeps, Names, Extends, unindented}
 use Rattle.first_pass_grammar.proofs.Common.{Document, block_with, fence_judge, trimmed, info_string, NamesInfo, IsFencedCode, Extent, range_text}
-use Rattle.first_pass_scan.specs.LeafLines.{has_backquote}
 use Rattle.first_pass_lines.proofs.PlaceFacts.{prefix_keeps}
 use Rattle.first_pass_tokens.proofs.OrderLemmas.{trimmed_boundary}
 use Rattle.first_pass_grammar.specs.CodeBlocks.{closing_fence_end}
@@ -31,19 +30,11 @@ indented_place text start n r s four u i less value after is =
 pub no_run : (bs : List ℕ) (byte count : ℕ) → 1 ≤ length bs → (slice_index_or bs 0 0 ≡ byte → ⊥) → 0 < count → closing_fence_len byte count bs ≡ None
 unfolding closing_fence_len
 no_run [] byte count filled other many = absurd (not-suc-le-zero filled)
-no_run (b ∷ bs) byte count filled other many =
-    let none : run_len byte (b ∷ bs) ≡ 0 = rw (ne_eqb _ _ other) refl in
-    let short : nat_le count 0 ≡ false = lt-leb _ _ many in
-    let full : (length (b ∷ bs) == 0) ≡ false = ne_eqb _ _ (λ same. not-suc-le-zero (subst (λ n. 1 ≤ n) same filled)) in
-    rw full (rw none (rw short refl))
+no_run (b ∷ bs) byte count filled other many = grind (arith, lt-leb)
 
 pub no_fence : (r : Rest) (byte count start : ℕ) → true ≡ not (is_some (next_column r)) → 1 ≤ length r.left → (slice_index_or r.left 0 0 ≡ byte → ⊥) → 0 < count
     → closing_fence_end byte count (place_at start r) ≡ None
-no_fence r byte count start none filled other many =
-    let few : nat_lt (indent r) 4 ≡ true = lt-ltb _ _ (omega (arith, none_few r none)) in
-    let no : closing_fence_len byte count (all_taken r).left ≡ None =
-    ap (λ (t : Rest). closing_fence_len byte count t.left) (none_all r none) ∙ no_run r.left byte count filled other many in
-    rw few (ap (option_map (λ n. offset (unindented (place_at start r)) + n)) no)
+no_fence r byte count start none filled other many = grind (arith, none_few, none_all, no_run)
 
 -- the result of a search for a closing fence in the rest after the columns
 pub closing_end : (text : List ℕ) (start n byte count : ℕ) (r : Rest) (o : Option ℕ)
@@ -115,14 +106,7 @@ fence_by t byte bs fence small plain h = subst (IsFence bs) (cond_some t (run_le
 
 fence_run : (bs : List ℕ) (fence : ℕ × ℕ) → code_fence bs ≡ Some fence → IsFence bs fence
 unfolding code_fence
-fence_run bs fence h =
-    let back : Bool = nat_le 3 (run_len backquote bs) && not (has_backquote (drop (run_len backquote bs) bs)) in
-    let waves : Bool = nat_le 3 (run_len tilde bs) in
-    let other : Option (ℕ × ℕ) = fence_if waves (run_len tilde bs, tilde) in
-    cond_both (begins backquote bs) (fence_if back (run_len backquote bs, backquote)) (if begins tilde bs then other else None)
-    (λ (o : Option (ℕ × ℕ)). o ≡ Some fence → IsFence bs fence) (λ b e. fence_by back backquote bs fence (omega arith) refl e)
-    (λ b e. cond_both (begins tilde bs) other None (λ (o : Option (ℕ × ℕ)). o ≡ Some fence → IsFence bs fence)
-    (λ c f. fence_by waves tilde bs fence (omega arith) refl f) (λ c f. absurd (none-some fence f)) e) h
+fence_run bs fence h = grind (arith, cond_both, fence_by, none-some)
 
 pub fence_plain : (bs : List ℕ) (fence : ℕ × ℕ) → code_fence bs ≡ Some fence → is_content fence.1 ≡ true
 fence_plain bs fence h = (fence_run bs fence h).2

@@ -4,8 +4,8 @@ use Rattle.std.proofs.Common.{None, IsSome, slice_get, refl, sym, ap, subst, ◌
 use Rattle.std.proofs.Common.{append-nil}
 use Rattle.first_pass_grammar.proofs.Common.{cond_both, take-append_seam, Item, HtmlBlock, Options, Forest, is_text, appended, BlockEnd, line_len, Place}
 use Rattle.first_pass_grammar.proofs.Common.{offset, line_end, IsPlaceOf, place_length, add_token, add_tokens, with_tokens, chained, JoinsNone}
-use Rattle.first_pass_grammar.proofs.Common.{chained-append, joins_none-fresh, Names, Extends, Document, document, block_with, AreColumns, ends_with_both}
-use Rattle.first_pass_grammar.proofs.Common.{range_html, raw_items, IsRawLine, AreRawLines, Extent, with_line, extent_to, GoesOn, IsLast, Closes, extent_by}
+use Rattle.first_pass_grammar.proofs.Common.{chained-append, joins_none-fresh, Names, Extends, Document, document, block_with, AreColumns}
+use Rattle.first_pass_grammar.proofs.Common.{range_html, raw_items, IsRawLine, AreRawLines, Extent, with_line, extent_to, GoesOn, IsLast, extent_by}
 use Rattle.first_pass_grammar.proofs.Common.{holds_end, tag_judge, blank_judge, IsHtml, lines_from}
 use Rattle.std.specs.Bool.{one_answer}
 use Rattle.std.specs.Str.Iter.{HasSubslice}
@@ -19,7 +19,7 @@ use Rattle.first_pass_lines.specs.Places.{line_of}
 use Rattle.first_pass_tokens.proofs.ChainLemmas.{with_token-plain, joins_none-appended}
 use Rattle.first_pass_grammar.specs.HtmlBlocks.{holds, is_empty, owing}
 use Rattle.first_pass_names.proofs.NameLemmas.{extends_none, extends_both}
-use Rattle.first_pass_open.specs.OpenBlock.{begun_item, closed_by, opened_block}
+use Rattle.first_pass_open.specs.OpenBlock.{closed_by, opened_block}
 use Rattle.first_pass_open.specs.Path.{path_of}
 use Rattle.first_pass_open.proofs.PathLemmas.{AreIn}
 use Rattle.first_pass_open.proofs.BlockLemmas.{still_open}
@@ -66,9 +66,7 @@ text_held until text line found until_is m = rw until_is (sym (one_answer (holds
 -- whether a line contains the end of a block, read at the place of its rest
 pub held_is : (text : List ℕ) (until : BlockEnd) (p : Place) (at next : ℕ) (found : Bool) (piece : List ℕ)
     → IsPlaceAt text at p → next ≡ line_end p → piece ≡ slice_range text at next → found ≡ holds_end until piece → holds_end until (line_of p) ≡ found
-held_is text until p at next found piece i next_is piece_is is =
-    let size : line_len p.rest.left ≡ next - at = omega (arith, i.offset_is) in
-    rw (is, piece_is, size, i.left_is)
+held_is text until p at next found piece i next_is piece_is is = grind arith
 
 some_left : (bs : List ℕ) → ¬ (length bs ≡ 0) → is_empty bs ≡ false
 some_left [] e = absurd (e refl)
@@ -78,14 +76,7 @@ some_left (b ∷ bs) e = refl
 pub tag_here : (text : List ℕ) (until : BlockEnd) (line p : Place) (at next : ℕ) (found : Bool)
     → IsPlaceOf text p → at ≡ offset p → ¬ (at ≡ length text) → next ≡ line_end p → found ≡ holds_end until (slice_range text at next)
     → tag_judge until line p ≡ (if found then IsLast p else GoesOn p)
-tag_here text until line p at next found i at_is some next_is m =
-    let l = place_length text p i in
-    let left = some_left p.rest.left (λ e. some (omega arith)) in
-    let held =
-    held_is text until p at next found (slice_range text at next)
-    (record { offset_is = sym at_is; left_is = i.left ∙ ap (λ k. drop k text) (sym at_is) }) next_is refl m in
-    ap (λ t. if t then Closes (offset p) else (if holds_end until (line_of p) then IsLast p else GoesOn p)) left
-    ∙ ap (λ t. if t then IsLast p else GoesOn p) held
+tag_here text until line p at next found i at_is some next_is m = grind (arith, place_length, some_left, held_is)
 
 -- items that are no texts, so nothing is joined to one
 abbrev pub ArePlain : List Item → Type 0
@@ -102,13 +93,10 @@ plain_columns names (suc n) at items is = subst ArePlain (sym is.2) (refl, tt)
 
 plain_html : (text : List ℕ) (from to : ℕ) → ArePlain (raw_items range_html text from to)
 unfolding raw_items
-plain_html text from to = cond_both (ends_with_both text from to) (range_html from (to - 2) ++ range_html (to - 1) to) (range_html from to) ArePlain
-    (λ both. (refl, (refl, tt))) (λ none. (refl, tt))
+plain_html text from to = grind (arith, cond_both)
 
 plain_line : (d : Document) (owed from to : ℕ) (items : List Item) → IsRawLine range_html d owed from to items → ArePlain items
-plain_line d owed from to items (columns, are, is) =
-    subst ArePlain (sym is)
-    (plain_append columns (raw_items range_html d.text from to) (plain_columns d.names owed from columns are) (plain_html d.text from to))
+plain_line d owed from to items (columns, are, is) = grind (arith, plain_append, plain_columns, plain_html)
 
 plain_token : (chain : List Item) (x : Item) → is_text x.body ≡ false → add_token chain x ≡ chain ++ x ∷ []
 plain_token [] x plain = refl
@@ -121,8 +109,7 @@ plain_tokens (x ∷ xs) chain h = ap (λ c. add_tokens c xs) (plain_token chain 
 
 plain_apart : (f : Forest Item) (xs : List Item) → JoinsNone f → ArePlain xs → JoinsNone (with_tokens f xs)
 plain_apart f [] apart h = apart
-plain_apart f (x ∷ xs) apart h =
-    subst (λ (g : Forest Item). JoinsNone (with_tokens g xs)) (sym (with_token-plain f x h.0)) (plain_apart (appended f x) xs (joins_none-appended f x h.0) h.1)
+plain_apart f (x ∷ xs) apart h = grind (arith, with_token-plain, joins_none-appended, plain_apart (appended f x) xs (joins_none-appended f x h.0) h.1)
 
 -- more raw lines of HTML before these
 html_after : (d : Document) (before chain : List Item) (ps : List Place) (whole : List Item)
@@ -206,10 +193,7 @@ module _ {text : List ℕ} {named : Names} {start columns next : ℕ} {one : For
     pub tag_extent : (until : BlockEnd)
         → holds_end until (line_of p) ≡ false
         → html_to_end text (path_of options g) until p ≡ with_line p (extent_from text (path_of options g) (tag_judge until) next)
-    tag_extent until held =
-        ap (λ t. extent_by (if t then IsLast p else GoesOn p) p (lines_from text (after_line_at text (offset p)))
-        (extent_from text (path_of options g) (tag_judge until) (after_line_at text (offset p)))) held
-        ∙ ap (λ k. with_line p (extent_from text (path_of options g) (tag_judge until) k)) (sym next_at)
+    tag_extent until held = grind (arith, next_at)
 
     pub blank_extent : html_to_blank text (path_of options g) p ≡ with_line p (extent_from text (path_of options g) blank_judge next)
     blank_extent = ap (λ k. with_line p (extent_from text (path_of options g) blank_judge k)) (sym next_at)
@@ -237,8 +221,7 @@ module _ {text : List ℕ} {named : Names} {start columns next : ℕ} {one : For
   -- it is still open after its first line, and after the others
   open_with : {d : Document} {whole : Extent} {two : Forest Item} {stop left : ℕ} → AppendsLines range_html d whole opened two stop left
       → IsSome (slice_get two.spine 0)
-  open_with {d} {whole} {two} {stop} {left} lines =
-      still_open g two (begun_item start HtmlBlock) lines.chain (record { 0 = length g.nodes }) refl lines.tree_is
+  open_with {d} {whole} {two} {stop} {left} lines = grind (arith, still_open)
 
   pub one_open : IsSome (slice_get one.spine 0)
   one_open =

@@ -1,20 +1,19 @@
 -- The lines of indented code, one after the other.
-use Rattle.std.proofs.Common.{◌≡◌, inl, inr, ℕ, suc, ◌+◌, ◌-◌, ◌<◌, ◌≤◌, Bool, true, false, if◌then◌else◌, List, ◌∷◌, ◌++◌, length, take, drop, slice_get}
-use Rattle.std.proofs.Common.{[], slice_index, Option, Some, None, IsSome, IfSome, IsUtf8, IsCharBoundary, refl, sym, ap, subst, ◌∙◌, arith, length-append}
-use Rattle.std.proofs.Common.{append_assoc, option_map, option_and_then, append-nil, lt-ltb, eq-eqb, ne_eqb}
+use Rattle.std.proofs.Common.{◌≡◌, inl, inr, ℕ, suc, ◌+◌, ◌-◌, ◌<◌, ◌≤◌, Bool, true, false, if◌then◌else◌, List, ◌∷◌, ◌++◌, length, drop, slice_get, []}
+use Rattle.std.proofs.Common.{slice_index, Option, Some, None, IsSome, IfSome, IsUtf8, IsCharBoundary, refl, sym, ap, subst, ◌∙◌, arith, length-append}
+use Rattle.std.proofs.Common.{append_assoc, option_map, option_and_then, append-nil, lt-ltb, ne_eqb}
 use Rattle.first_pass_grammar.proofs.Common.{cases_lt, cond_both, cond-true, cond-false, false≢true, cond_some, none-some, take-append_seam, Item, Root}
-use Rattle.first_pass_grammar.proofs.Common.{IndentCodeBlock, TreeIndex, Forest, IsForest, IsChild, appended, at_depth, depths, open_place, with_end_at}
-use Rattle.first_pass_grammar.proofs.Common.{modify-at, is_blank_line, line_len, Rest, after_columns, Place, offset, line_end, line_rest, line_place}
-use Rattle.first_pass_grammar.proofs.Common.{place_at, moved_columns, IsPlaceOf, line_len-some, line_len-within, lines_at-line, lines_at-end, line_is_place}
-use Rattle.first_pass_grammar.proofs.Common.{columns_line_end, text_token, touches, add_token, add_tokens, with_tokens, chained, leaves, JoinsNone}
-use Rattle.first_pass_grammar.proofs.Common.{with_tokens-chained, chained-append, chained-spine, chained-nodes, Names, Extends, at_rest, has_columns, after}
-use Rattle.first_pass_grammar.proofs.Common.{is_blank_rest, Document, document, block_with, lines_from, ends_with_both, range_text, raw_items, IsRawLine}
-use Rattle.first_pass_grammar.proofs.Common.{AreRawLines, code_by, code_lines, without_blanks, last_end}
+use Rattle.first_pass_grammar.proofs.Common.{IndentCodeBlock, TreeIndex, Forest, IsForest, IsChild, appended, depths, open_place, with_end_at, modify-at}
+use Rattle.first_pass_grammar.proofs.Common.{is_blank_line, line_len, Rest, after_columns, Place, offset, line_end, line_rest, place_at, moved_columns}
+use Rattle.first_pass_grammar.proofs.Common.{IsPlaceOf, line_len-some, line_len-within, lines_at-line, lines_at-end, line_is_place, columns_line_end}
+use Rattle.first_pass_grammar.proofs.Common.{text_token, touches, add_token, add_tokens, with_tokens, chained, JoinsNone, with_tokens-chained, chained-append}
+use Rattle.first_pass_grammar.proofs.Common.{chained-spine, chained-nodes, Names, Extends, at_rest, has_columns, after, is_blank_rest, Document, document}
+use Rattle.first_pass_grammar.proofs.Common.{block_with, lines_from, ends_with_both, range_text, raw_items, IsRawLine, AreRawLines, code_by, code_lines}
+use Rattle.first_pass_grammar.proofs.Common.{without_blanks, last_end}
 use Rattle.first_pass_tree.specs.Forest.{end_of, kept_after}
 use Rattle.first_pass_tree.proofs.Blocks.{forest-eq}
 use Rattle.first_pass_tree.proofs.Keeps.{run_stop, run_all, depth_read}
-use Rattle.first_pass_tokens.proofs.ChainLemmas.{add_tokens-append, appended-chained}
-use Rattle.first_pass_tokens.proofs.ChainLemmas.{chained-length, has_leaves-chained, pushed-fresh}
+use Rattle.first_pass_tokens.proofs.ChainLemmas.{add_tokens-append, appended-chained, chained-length, has_leaves-chained, pushed-fresh}
 use Rattle.first_pass_grammar.specs.declared.kind.Container.{Container}
 use Rattle.first_pass_grammar.specs.CodeBlocks.{unless_blank, last_is_blank}
 use Rattle.first_pass_raw.specs.declared.indented_code.Kept.{Kept}
@@ -78,13 +77,10 @@ record Stays (front : List Item) (x : Item) (chain : List Item) : Type 0 where
   is : chain ≡ front ++ record x { «end» = to } ∷ rest
 
 stays_token : (front : List Item) (x : Item) (to : ℕ) (rest : List Item) (t : Item) → Stays front x (add_token (front ++ record x { «end» = to } ∷ rest) t)
-stays_token [] x to [] t =
-    cond_both (touches (record x { «end» = to }) t) (record x { «end» = t.«end» } ∷ []) (record x { «end» = to } ∷ t ∷ []) (Stays [] x)
-    (λ joins. record { to = t.«end»; rest = []; is = refl }) (λ apart. record { to = to; rest = t ∷ []; is = refl })
+stays_token [] x to [] t = grind (arith, cond_both)
 stays_token [] x to (z ∷ zs) t = record { to = to; rest = add_token (z ∷ zs) t; is = refl }
 stays_token (f ∷ []) x to rest t = let s = stays_token [] x to rest t in record { to = s.to; rest = s.rest; is = ap (λ (ys : List Item). f ∷ ys) s.is }
-stays_token (f ∷ g ∷ fs) x to rest t =
-    let s = stays_token (g ∷ fs) x to rest t in record { to = s.to; rest = s.rest; is = ap (λ (ys : List Item). f ∷ ys) s.is }
+stays_token (f ∷ g ∷ fs) x to rest t = grind (arith, stays_token (g ∷ fs) x to rest t)
 
 stays_tokens : (front : List Item) (x : Item) (chain more : List Item) → Stays front x chain → Stays front x (add_tokens chain more)
 stays_tokens front x chain [] s = s
@@ -137,39 +133,21 @@ module _ (old : Forest Item) (opened : open_place old.spine + 1 ≡ length old.n
 
   leaf : (k : ℕ) → length old.nodes ≤ k → k < length (chained old (front ++ x ∷ rest)).nodes
       → slice_index (depths (chained old (front ++ x ∷ rest)).nodes) k ≡ length (chained old (front ++ x ∷ rest)).spine + 1
-  leaf k low high =
-      let s = ap open_place (chained-spine old (front ++ x ∷ rest)) in
-      has_leaves-chained old (front ++ x ∷ rest) opened k (omega arith) high
+  leaf k low high = grind (arith, chained-spine, has_leaves-chained)
 
   -- an item of a chain in the innermost open node is its child
   pub chain_child : IsChild (chained old (front ++ x ∷ rest)) place
-  chain_child =
-      let l = chain_length in
-      let s = ap open_place (chained-spine old (front ++ x ∷ rest)) in
-      let within : place.0 < length (chained old (front ++ x ∷ rest)).nodes = omega arith in
-      record { within = within; depth = leaf place.0 (omega arith) within; following = omega arith }
+  chain_child = grind (arith, chain_length, chained-spine, leaf)
 
   chain_split : chained old (front ++ x ∷ rest) ≡ chained (chained old (front ++ x ∷ [])) rest
   chain_split = ap (chained old) (sym (append_assoc front (x ∷ []) rest)) ∙ sym (chained-append old (front ++ x ∷ []) rest)
 
   chain_end : end_of (depths (chained old (front ++ x ∷ rest)).nodes) place.0 ≡ length (chained old (front ++ x ∷ [])).nodes
-  chain_end =
-      let l = chain_length in
-      let h = last_length old front x in
-      let e = run_none (chained old (front ++ x ∷ rest)).nodes place.0
-      (λ more. leaf (place.0 + 1) (omega arith) more ∙ sym (leaf place.0 (omega arith) (omega arith))) in
-      omega arith
+  chain_end = grind (arith, chain_length, last_length, run_none, leaf)
 
   -- the chain without the nodes after an item
   pub chain_kept : kept_after (chained old (front ++ x ∷ rest)) place ≡ chained old (front ++ x ∷ [])
-  chain_kept =
-      let g : Forest Item = chained old (front ++ x ∷ rest) in
-      let h : Forest Item = chained old (front ++ x ∷ []) in
-      forest-eq (kept_after g place) h
-      (ap (λ n. take n g.nodes) chain_end ∙ ap (λ (f : Forest Item). take (length h.nodes) f.nodes) chain_split
-      ∙ ap (take (length h.nodes)) (chained-nodes h rest) ∙ take-append_seam h.nodes (at_depth (length h.spine + 1) (leaves rest)))
-      (chained-spine old (front ++ x ∷ rest) ∙ sym (chained-spine old (front ++ x ∷ [])))
-      (ap (λ m. Some (place_in m)) at ∙ sym (last_current old front x))
+  chain_kept = grind (arith, forest-eq, chain_end, chain_split, chained-nodes, take-append_seam, chained-spine, last_current)
 
 -- lines of code, then one more
 more_lines : (d : Document) (chain : List Item) (ps : List Place) (q : Place) (mid line : List Item) → AreRawLines range_text d chain ps mid
@@ -222,26 +200,11 @@ lines_next : (text : List ℕ) (path : List Container) (next : ℕ) → next ≤
     → code_lines path (lines_from text next) ≡ code_by [] (lines_from text next) (option_map (place_at next) (code_rest_at text path next))
     (code_lines path (lines_from text (after_line_at text next)))
 unfolding code_lines
-lines_next text path next within =
-    let further : List Place = lines_from text (after_line_at text next) in
-    elim (cases_lt next (length text)) [
-      | inl more ↦ (
-          let line : Place = line_place next (drop next text) in
-          let first = lines_at-line text next more in
-          ap (code_lines path) first ∙ next_by line further (line ∷ further) (after path (line_rest (drop next text))) (code_lines path further)
-          ∙ ap (λ ls. code_by [] ls (option_map (at_rest line) (code_rest (after path (line_rest (drop next text))))) (code_lines path further)) (sym first)
-          ∙ ap (λ o. code_by [] (lines_from text next) (option_map (at_rest line) o) (code_lines path further))
-          (sym (cond-false _ _ _ (ne_eqb next (length text) (λ same. omega arith)))))
-      | inr past ↦ rw (lines_at-end text next past, eq-eqb next (length text) (omega arith)) refl
-    ]
+lines_next text path next within = grind (arith, cases_lt, lines_at-line, next_by, cond-false, lines_at-end)
 
 -- It is in the text.
 next_within : (text : List ℕ) (path : List Container) (next : ℕ) (r : Rest) → next ≤ length text → code_rest_at text path next ≡ Some r → next < length text
-next_within text path next r within some =
-    elim (cases_lt next (length text)) [
-      | inl more ↦ more
-      | inr past ↦ absurd (none-some r (sym (cond-true _ _ _ (eq-eqb next (length text) (omega arith))) ∙ some))
-    ]
+next_within text path next r within some = grind (arith, cases_lt, none-some, cond-true)
 
 columns_by : (r : Rest) (o : Option Rest) → code_rest o ≡ Some r → (s : Rest) × (o ≡ Some s) × (after_columns 4 s ≡ r)
 columns_by r None e = absurd (none-some r e)
@@ -260,9 +223,7 @@ next_end text path next r u b some =
 pub next_read : (text : List ℕ) (path : List Container) (next taken last : ℕ) (r : Rest) → IsUtf8 text → IsCharBoundary text next
     → code_rest_at text path next ≡ Some r → IsPlaceOf text (place_at next r) → taken ≡ r.taken → last ≡ after_line_at text (next + taken)
     → (last ≡ after_line_at text next) × (next < last) × IsCharBoundary text last
-next_read text path next taken last r u b some i t e =
-    let n : last ≡ after_line_at text next = e ∙ ap (λ k. after_line_at text (next + k)) t ∙ read_end text next r i ∙ next_end text path next r u b some in
-    (n, omega (arith, n, (line_len-within text next (next_within text path next r b.0 some)).0), (first_read text text next last u b refl n).1)
+next_read text path next taken last r u b some i t e = grind (arith, read_end, next_end, line_len-within, next_within, first_read)
 
 -- a line that is not blank has a byte
 some_bytes : (bs : List ℕ) → is_blank_line bs ≡ false → 0 < length bs
@@ -408,17 +369,12 @@ module _ {d : Document} {p : Place} {old now : Forest Item} {next : ℕ} {kept :
 pub next_rest : (d : Document) (p : Place) (old now : Forest Item) (next : ℕ) (kept : Kept) (blank : Bool) (found : Option Rest)
     → IndentedSoFar d p old now next kept blank → IsForest old
     → found ≡ code_rest_at d.text (path_of d.options now) next → found ≡ code_rest_at d.text (path_of d.options old) next
-next_rest d p old now next kept blank found s f e =
-    let path : path_of d.options now ≡ path_of d.options old =
-    ap (path_of d.options) s.code.tree_is ∙ path_of-chained d.options old s.chain (open_are_in old.nodes old.spine f.opened) in
-    e ∙ ap (λ c. code_rest_at d.text c next) path
+next_rest d p old now next kept blank found s f e = grind (arith, path_of-chained, open_are_in)
 
 -- and no block quote is open further inside than before
 pub next_quotes : (d : Document) (p : Place) (old now : Forest Item) (next : ℕ) (kept : Kept) (blank : Bool) (n : ℕ)
     → IndentedSoFar d p old now next kept blank → IsForest old → has_quote_after d.options old n ≡ false → has_quote_after d.options now n ≡ false
-next_quotes d p old now next kept blank n s f none =
-    ap (λ g. has_quote_after d.options g n) s.code.tree_is
-    ∙ quote_after-chained d.options old s.chain n (open_are_in old.nodes old.spine f.opened) ∙ none
+next_quotes d p old now next kept blank n s f none = grind (arith, quote_after-chained, open_are_in)
 
 -- the first place at an offset, with columns owed there
 abbrev pub first_at : List ℕ → ℕ → ℕ → Place
@@ -443,9 +399,7 @@ module _ {d : Document} {p : Place} {now : Forest Item} {next : ℕ} {kept : Kep
   last = s.stays.last.last
 
   stays : Stays front last s.chain
-  stays =
-      subst (Stays front last) (sym s.stays.whole_is)
-      (stays_tokens front last s.stays.chain s.stays.more (record { to = last.«end»; rest = []; is = s.stays.last.is }))
+  stays = grind (arith, stays_tokens)
 
   tree_now : now ≡ chained opened (front ++ record last { «end» = stays.to } ∷ stays.rest)
   tree_now = s.code.tree_is ∙ ap (chained opened) stays.is

@@ -1,20 +1,19 @@
 -- Raw leaf blocks are in order: each is between two offsets with everything below it, and its lines follow one
 -- another in the text.
 use Rattle.std.proofs.Common.{◌≡◌, ◌⊎◌, inl, inr, ℕ, zero, suc, ◌+◌, ◌-◌, ◌*◌, ◌<◌, ◌≤◌, ◌==◌, ◌&&◌, Bool, true, false, List, ◌∷◌, ◌++◌, length, drop, []}
-use Rattle.std.proofs.Common.{get_or, slice_index, nat_lt, nat_le, if◌then◌else◌, Option, Some, None, IsUtf8, IsCharBoundary, refl, sym, ap, subst, ◌∙◌}
-use Rattle.std.proofs.Common.{arith, length-append, length-drop, get_or-drop, drop-drop, option_map, option_and_then, eqb-true, ltb-true, true≢false}
+use Rattle.std.proofs.Common.{get_or, nat_lt, nat_le, if◌then◌else◌, Option, Some, None, IsUtf8, IsCharBoundary, refl, sym, ap, subst, ◌∙◌, arith}
+use Rattle.std.proofs.Common.{length-append, length-drop, get_or-drop, drop-drop, option_map, eqb-true, true≢false}
 use Rattle.first_pass_grammar.proofs.Common.{prefix_len, cond_both, cases_lt, and_parts, nat_tests, at_drop_more, prefix_len-le-length, prefix_len_passes}
-use Rattle.first_pass_grammar.proofs.Common.{prefix_len_stops, cond_some, IsCharBoundary-before_ascii, IsCharBoundary-end, line_feed, carriage_return}
-use Rattle.first_pass_grammar.proofs.Common.{space, hyphen, full_stop, ascii_end, Item, ItemBody, IndentCodeBlock, FencedCodeBlock, MetadataBlock}
-use Rattle.first_pass_grammar.proofs.Common.{HtmlBlock, BlockEnd, is_content, line_len, at_line_end, run_len, closing_fence_len, Rest, indent, Place}
-use Rattle.first_pass_grammar.proofs.Common.{offset, line_end, line_rest, line_place, place_at, moved_columns, start_of, IsPlaceOf, line_len-some}
-use Rattle.first_pass_grammar.proofs.Common.{line_len-within, line_is_place, columns_keep, columns_line_end, place_length, start_of-lines, text_token}
-use Rattle.first_pass_grammar.proofs.Common.{add_token, add_tokens, AreInOrder, order_from, order_to, order_adds, has_columns, at_rest, after, taken}
-use Rattle.first_pass_grammar.proofs.Common.{all_taken, unindented, is_blank_rest, Names, Document, block_with, AreColumns, ends_with_both, Ranges}
-use Rattle.first_pass_grammar.proofs.Common.{range_text, range_html, raw_items, IsRawLine, AreRawLines, with_line, extent_to, Verdict, GoesOn, IsLast}
-use Rattle.first_pass_grammar.proofs.Common.{Closes, Stops, extent_by, extent, judged, in_containers, code_place, code_by, code_lines, without_blanks}
-use Rattle.first_pass_grammar.proofs.Common.{last_end, fence_judge, IsFencedCode, metadata_judge, metadata_kind, IsMetadata, holds_end, tag_judge}
-use Rattle.first_pass_grammar.proofs.Common.{blank_judge, IsHtml, lines_from, counted_nodes, Elsewhere, FitsBetween}
+use Rattle.first_pass_grammar.proofs.Common.{prefix_len_stops, cond_some, IsCharBoundary-before_ascii, IsCharBoundary-end, line_feed, carriage_return, space}
+use Rattle.first_pass_grammar.proofs.Common.{hyphen, full_stop, ascii_end, Item, ItemBody, IndentCodeBlock, FencedCodeBlock, MetadataBlock, HtmlBlock}
+use Rattle.first_pass_grammar.proofs.Common.{BlockEnd, is_content, line_len, at_line_end, run_len, closing_fence_len, Rest, indent, Place, offset, line_end}
+use Rattle.first_pass_grammar.proofs.Common.{line_rest, line_place, place_at, moved_columns, start_of, IsPlaceOf, line_len-some, line_len-within}
+use Rattle.first_pass_grammar.proofs.Common.{line_is_place, columns_keep, columns_line_end, place_length, start_of-lines, add_token, add_tokens, AreInOrder}
+use Rattle.first_pass_grammar.proofs.Common.{order_from, order_to, order_adds, has_columns, at_rest, after, taken, all_taken, unindented, is_blank_rest}
+use Rattle.first_pass_grammar.proofs.Common.{Names, Document, block_with, AreColumns, ends_with_both, Ranges, range_text, range_html, raw_items, IsRawLine}
+use Rattle.first_pass_grammar.proofs.Common.{AreRawLines, with_line, extent_to, Verdict, GoesOn, IsLast, Closes, Stops, extent_by, extent, judged}
+use Rattle.first_pass_grammar.proofs.Common.{in_containers, code_lines, without_blanks, last_end, fence_judge, IsFencedCode, metadata_judge, metadata_kind}
+use Rattle.first_pass_grammar.proofs.Common.{IsMetadata, holds_end, tag_judge, blank_judge, IsHtml, lines_from, counted_nodes, Elsewhere, FitsBetween}
 use Rattle.std.proofs.lemmas.Bool.{or_cases}
 use Rattle.first_pass_lines.specs.Lines.{is_space_or_tab}
 use Rattle.first_pass_metadata.specs.Metadata.{three_of, closing_marks, closing_metadata_len}
@@ -25,9 +24,8 @@ use Rattle.first_pass_tokens.proofs.BytesLemmas.{few_add}
 use Rattle.first_pass_tokens.proofs.OrderLemmas.{order_append}
 use Rattle.first_pass_grammar.specs.declared.kind.Container.{Container}
 use Rattle.first_pass_grammar.specs.Extents.{Extent as Lines}
-use Rattle.first_pass_grammar.specs.CodeBlocks.{unless_blank, IsIndentedCode}
-use Rattle.first_pass_grammar.specs.CodeBlocks.{fence_verdict, metadata_verdict}
-use Rattle.first_pass_grammar.specs.HtmlBlocks.{is_empty, tag_verdict, first_owing}
+use Rattle.first_pass_grammar.specs.CodeBlocks.{unless_blank, IsIndentedCode, fence_verdict, metadata_verdict}
+use Rattle.first_pass_grammar.specs.HtmlBlocks.{first_owing}
 use Rattle.first_pass_grammar.proofs.Order.Orders.{block_fits, length-block}
 use Rattle.first_pass_grammar.proofs.Count.CountedNodes.{own_at_most}
 use Rattle.first_pass_raw.specs.RawBlocks.{after_line_at, code_after, fenced_after, metadata_after, html_to_end, html_to_blank}
@@ -95,21 +93,12 @@ columns_kept text names (suc n) at items b is = rw is.2 ((omega arith, omega ari
 -- `\r\n` at the end of a line: between characters before both, and between them
 both_by : (text : List ℕ) (from to : ℕ)
     → to ≤ length text → ends_with_both text from to ≡ true → (from + 2 ≤ to) × IsCharBoundary text (to - 2) × IsCharBoundary text (to - 1)
-both_by text from to within h =
-    let a = and_parts (nat_lt (from + 1) to && (slice_index text (to - 2) == carriage_return)) (slice_index text (to - 1) == line_feed) h in
-    let b = and_parts (nat_lt (from + 1) to) (slice_index text (to - 2) == carriage_return) a.0 in
-    let long : from + 1 < to = ltb-true (from + 1) to b.0 in
-    let return_is = eqb-true (slice_index text (to - 2)) carriage_return b.1 in
-    let newline_is = eqb-true (slice_index text (to - 1)) line_feed a.1 in
-    (omega arith, IsCharBoundary-before_ascii text (to - 2) (omega arith) (omega arith), IsCharBoundary-before_ascii text (to - 1) (omega arith) (omega arith))
+both_by text from to within h = grind (arith, and_parts)
 
 -- A chain gets at most as many items more as tokens are appended to it.
 add_tokens_few : (xs chain : List Item) → length (add_tokens chain xs) ≤ length chain + length xs
 add_tokens_few [] chain = omega arith
-add_tokens_few (x ∷ xs) chain =
-    let f = few_add chain x in
-    let g = add_tokens_few xs (add_token chain x) in
-    omega arith
+add_tokens_few (x ∷ xs) chain = grind (arith, few_add, add_tokens_few xs (add_token chain x))
 
 -- The items of a range of the bytes of a raw line are in order, and at most one.
 abbrev IsRange : Ranges → Type 0
@@ -117,9 +106,7 @@ IsRange range = (text : List ℕ) (from to : ℕ)
     → from ≤ to → IsCharBoundary text from → IsCharBoundary text to → AreInOrder text from to (range from to) × (length (range from to) ≤ 1)
 
 text_range : IsRange range_text
-text_range text from to order b c =
-    cond_both (nat_lt from to) (text_token from to false ∷ []) [] (λ xs. AreInOrder text from to xs × (length xs ≤ 1))
-    (λ some. ((omega arith, order, b, c, omega arith), omega arith)) (λ none. (order, omega arith))
+text_range text from to order b c = grind (arith, cond_both)
 
 html_range : IsRange range_html
 html_range text from to order b c = ((omega arith, order, b, c, omega arith), omega arith)
@@ -169,10 +156,7 @@ module _ (range : Ranges) (r : IsRange range) where
 bytes_few : (text : List ℕ) (from to : ℕ) (ps : List Place) → HaveBytes from ps → ArePlaced text from ps to → length ps + from ≤ to
 unfolding HaveBytes ArePlaced
 bytes_few text from to [] some placed = omega arith
-bytes_few text from to (p ∷ ps) some placed =
-    let a = some.0 in
-    let f = bytes_few text (line_end p) to ps some.1 placed.2 in
-    omega arith
+bytes_few text from to (p ∷ ps) some placed = grind (arith, bytes_few text (line_end p) to ps some.1 placed.2)
 
 -- Two offsets around a block that begins and ends at two others.
 pub record Around (start stop : ℕ) : Type 0 where
@@ -185,11 +169,7 @@ pub record Around (start stop : ℕ) : Type 0 where
 few_by : (text : List ℕ) (start stop n : ℕ) (ps : List Place) (w : Around start stop)
     → n ≤ 0 + 3 * length ps → AreFew start ps → ArePlaced text start ps stop → w.from < w.to → suc n ≤ 4 * (w.to - w.from)
 few_by text start stop n ps w least (inl one) placed apart = omega arith
-few_by text start stop n ps w least (inr some) placed apart =
-    let following = w.following in
-    let before = w.before in
-    let k = bytes_few text start stop ps some placed in
-    omega arith
+few_by text start stop n ps w least (inr some) placed apart = grind (arith, bytes_few)
 
 -- A raw line is in order, in code and metadata or in HTML.
 pub text_line_in_order : (d : Document) (owed from to : ℕ) (items : List Item)
@@ -240,18 +220,13 @@ pub kept_placed : (text : List ℕ) (from to : ℕ) (ps : List Place) → IsUtf8
     → ArePlaced text from (without_blanks ps) (last_end from (without_blanks ps)) × IsCharBoundary text (last_end from (without_blanks ps))
 unfolding ArePlaced without_blanks last_end
 kept_placed text from to [] u b h = (omega arith, b)
-kept_placed text from to (p ∷ ps) u b h =
-    let k = kept_placed text (line_end p) to ps u (place_end text p u h.1) h.2 in
-    kept_by (λ qs. ArePlaced text from qs (last_end from qs) × IsCharBoundary text (last_end from qs)) p (without_blanks ps)
-    (omega arith, b) ((h.0, h.1, k.0), k.1)
+kept_placed text from to (p ∷ ps) u b h = grind (arith, place_end, kept_by, kept_placed text (line_end p) to ps u (place_end text p u h.1) h.2)
 
 -- the end of the last of them is not after the others
 pub kept_last : (text : List ℕ) (from to : ℕ) (ps : List Place) → ArePlaced text from ps to → last_end from (without_blanks ps) ≤ to
 unfolding ArePlaced without_blanks last_end
 kept_last text from to [] h = h
-kept_last text from to (p ∷ ps) h =
-    kept_by (λ qs. last_end from qs ≤ to) p (without_blanks ps) (omega (arith, h.0, placed_bound text (line_end p) to ps h.2))
-    (kept_last text (line_end p) to ps h.2)
+kept_last text from to (p ∷ ps) h = grind (arith, kept_by, placed_bound, kept_last text (line_end p) to ps h.2)
 
 -- each of these has a byte, too
 kept_bytes : (from : ℕ) (ps : List Place) → HaveBytes from ps → HaveBytes from (without_blanks ps)
@@ -417,12 +392,7 @@ three_plain : (c : ℕ) (bs : List ℕ) → is_content c ≡ true → three_of c
 three_plain c [] plain h = cc
 three_plain c (x ∷ []) plain h = absurd (grind (arith, h))
 three_plain c (x ∷ y ∷ []) plain h = absurd (grind (arith, h))
-three_plain c (x ∷ y ∷ z ∷ bs) plain h =
-    let a = and_parts _ _ h in
-    let b = and_parts _ _ a.1 in
-    let d = and_parts _ _ b.1 in
-    let passes : (w : ℕ) → (c == w) ≡ true → is_content w ≡ true = λ w e. ap is_content (sym (eqb-true c w e)) ∙ plain in
-    rw (passes x a.0, passes y b.0, passes z d.0) (omega arith)
+three_plain c (x ∷ y ∷ z ∷ bs) plain h = grind (arith, and_parts)
 
 metadata_mark : (byte : ℕ) (bs : List ℕ) (n : ℕ) → is_content byte ≡ true → closing_metadata_len byte bs ≡ Some n → IsMark bs n
 unfolding closing_metadata_len closing_marks
@@ -468,8 +438,7 @@ module _ (text : List ℕ) (u : IsUtf8 text) (path : List Container) where
   taken_in at line q w b e h = in_by at q (after path (line_rest (drop at text))) w b refl (ap (taken path) (sym e) ∙ h)
 
   line_in : (at : ℕ) → at < length text → IsCharBoundary text at → IsIn at (line_place at (drop at text))
-  line_in at w b =
-      record { stands = line_is_place text at b; here = refl; same_end = line_start_end text at; some = omega (arith, (line_len-within text at w).0) }
+  line_in at w b = grind (arith, line_is_place, line_start_end, line_len-within)
 
   columns_in : (n at : ℕ) (q : Place) → IsIn at q → IsIn at (moved_columns n q)
   columns_in n at q i =
@@ -505,21 +474,11 @@ module _ (text : List ℕ) (u : IsUtf8 text) (path : List Container) where
     StaysWithin judge = (at : ℕ) (line q : Place) → line ≡ line_place at (drop at text) → IsCharBoundary text at → IsIn at q → IsWithin at (judge line q)
 
     stops_here : (at : ℕ) (line : Place) → line ≡ line_place at (drop at text) → IsCharBoundary text at → IsWithin at (Stops line.line)
-    stops_here at line is b =
-        let start = ap (λ (p : Place). p.line) is in
-        (omega arith, subst (IsCharBoundary text) (sym start) b, λ early. omega arith)
+    stops_here at line is b = grind arith
 
     extent_placed : (at : ℕ) (q : Place) (e : Lines) → IsIn at q → IsFilled Early text (after_line_at text at) e → IsFilled Early text at (with_line q e)
     unfolding ArePlaced HaveBytes
-    extent_placed at q e i further =
-        let rest = subst (λ k. IsFilled Early text k e) (sym i.same_end) further in
-        record {
-          places = (in_after at q i, i.stands, rest.places);
-          left = (in_after at q i, i.stands, rest.left);
-          boundary = rest.boundary;
-          node_bound = (i.some, rest.node_bound);
-          before = rest.before;
-        }
+    extent_placed at q e i further = grind (arith, in_after)
 
     -- a block without further lines
     stops_placed : (at stop : ℕ) (lines : List Place) → at ≤ stop → IsCharBoundary text stop → at ≤ start_of (length text) lines
@@ -570,8 +529,7 @@ module _ (text : List ℕ) (u : IsUtf8 text) (path : List Container) where
     with_first : (p : Place) (e : Lines) → IsPlaceOf text p → IsFilled Early text (line_end p) e → AreFew (offset p) (p ∷ e.places)
         → IsPlaced Early text (offset p) (with_line p e)
     unfolding ArePlaced
-    with_first p e i f few =
-        record { places = (omega arith, i, f.places); left = (omega arith, i, f.left); boundary = f.boundary; node_bound = few; before = f.before }
+    with_first p e i f few = grind arith
 
     -- it has a byte if another line follows
     first_few : (judge : Place → Place → Verdict) (lines : List Place) (p : Place) → IsPlaceOf text p → lines ≡ lines_from text (line_end p)
@@ -579,9 +537,7 @@ module _ (text : List ℕ) (u : IsUtf8 text) (path : List Container) where
         → AreFew (offset p) (p ∷ (extent (in_containers path judge) (length text) lines).places)
     unfolding HaveBytes extent
     first_few judge [] p i is bytes = inl (omega arith)
-    first_few judge (line ∷ lines) p i is bytes =
-        let more = (first_line text (line_end p) line lines is).0 in
-        inr (omega (arith, line_len-some p.rest.left (omega (arith, place_length text p i))), bytes)
+    first_few judge (line ∷ lines) p i is bytes = grind (arith, first_line, line_len-some, place_length)
 
     first_placed : (judge : Place → Place → Verdict) → StaysWithin judge → (p : Place) → IsPlaceOf text p
         → IsPlaced Early text (offset p) (with_line p (extent (in_containers path judge) (length text) (lines_from text (after_line_at text (offset p)))))
@@ -626,31 +582,18 @@ module _ (text : List ℕ) (u : IsUtf8 text) (path : List Container) where
       subst (Closed Unit at) z (marked Unit at n line (subst (IsIn at) (sym is) (line_in at within b)) (metadata_mark byte line.rest.left n plain h)))
 
   tag_stays : (until : BlockEnd) → StaysWithin Unit (tag_judge until)
-  tag_stays until at line q is b i =
-      cond_both (is_empty q.rest.left) (Closes (offset q)) (tag_verdict until q) (IsWithin Unit at)
-      (λ none. (in_after at q i, i.stands.boundary, λ early. omega (arith, i.same_end)))
-      (λ some. cond_both (holds_end until (line_of q)) (IsLast q) (GoesOn q) (IsWithin Unit at) (λ held. i) (λ other. i))
+  tag_stays until at line q is b i = grind (arith, cond_both, in_after)
 
   -- An HTML block may end after the prefix of a blank line.
   blank_stays : StaysWithin ⊥ blank_judge
-  blank_stays at line q is b i =
-      cond_both (at_line_end q.rest.left) (Stops line.line) (if is_blank_rest q.rest then Stops (offset q) else GoesOn q) (IsWithin ⊥ at)
-      (λ here. stops_here ⊥ at line is b)
-      (λ other. cond_both (is_blank_rest q.rest) (Stops (offset q)) (GoesOn q) (IsWithin ⊥ at)
-      (λ blank. (in_after at q i, i.stands.boundary, λ early. absurd early)) (λ more. i))
+  blank_stays at line q is b i = grind (arith, cond_both, stops_here, in_after)
 
   -- the lines of indented code, as an extent
   code_extent : (lines : List Place)
       → (let e = extent (in_containers path code_judge) (length text) lines in code_lines path lines ≡ (e.places, e.left))
   unfolding code_lines extent
   code_extent [] = refl
-  code_extent (line ∷ lines) =
-      let e : Lines = extent (in_containers path code_judge) (length text) lines in
-      ap (code_by lines (line ∷ lines) (code_place path line)) (code_extent lines)
-      ∙ option_both (λ o. code_by lines (line ∷ lines) (option_and_then (λ (q : Place). if has_columns 4 q.rest then Some (moved_columns 4 q) else None) o)
-      (e.places, e.left) ≡ (let x = extent_by (judged code_judge line o) line lines e in (x.places, x.left))) (taken path line) refl
-      (λ q h. elim (has_columns 4 q.rest) as (λ t. code_by lines (line ∷ lines) (if t then Some (moved_columns 4 q) else None) (e.places, e.left)
-      ≡ (let x = extent_by (if t then GoesOn (moved_columns 4 q) else Stops line.line) line lines e in (x.places, x.left))) [ true ↦ refl | false ↦ refl ])
+  code_extent (line ∷ lines) = grind (arith, option_both, code_extent lines)
 
   -- The lines of each raw leaf block are placed in the text, from its start on.
   pub indented_after_placed : (p : Place)

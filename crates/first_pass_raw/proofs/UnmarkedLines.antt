@@ -1,13 +1,11 @@
 -- Lines without the byte of a fence and without `\r` are whole lines of the fenced code block.
-use Rattle.std.proofs.Common.{◌≡◌, inl, inr, ℕ, zero, suc, ◌+◌, ◌-◌, ◌<◌, ◌≤◌, ◌==◌, ◌&&◌, Bool, true, false, List, ◌∷◌, length, drop, get_or, nat_lt}
-use Rattle.std.proofs.Common.{Option, Some, None, unwrap_or, if◌then◌else◌, refl, sym, ap, ◌∙◌, arith, get_or-drop, length-drop, drop-drop, option_map}
-use Rattle.std.proofs.Common.{true≢false}
-use Rattle.first_pass_grammar.proofs.Common.{prefix_len, cases_lt, nat_tests, drop_more, prefix_len_passes, prefix_len_stops, line_feed, carriage_return}
-use Rattle.first_pass_grammar.proofs.Common.{is_content, eol_len, line_len, Rest, indent, after_columns, line_place, line_rest, offset, all_taken}
-use Rattle.first_pass_grammar.proofs.Common.{unindented, ends_with_both, fence_judge}
+use Rattle.std.proofs.Common.{◌≡◌, inl, inr, ℕ, zero, suc, ◌+◌, ◌-◌, ◌<◌, ◌≤◌, ◌&&◌, Bool, true, false, List, ◌∷◌, length, drop, get_or, Option, Some, None}
+use Rattle.std.proofs.Common.{if◌then◌else◌, refl, sym, ap, ◌∙◌, arith, get_or-drop, length-drop, drop-drop, option_map, true≢false}
+use Rattle.first_pass_grammar.proofs.Common.{prefix_len, cases_lt, nat_tests, drop_more, prefix_len_passes, prefix_len_stops, line_feed, is_content, eol_len}
+use Rattle.first_pass_grammar.proofs.Common.{Rest, indent, after_columns, line_place, line_rest, offset, all_taken, unindented, ends_with_both, fence_judge}
 use Rattle.first_pass_lines.proofs.LineFacts.{line_len-content_end}
 use Rattle.first_pass_lines.proofs.PlaceFacts.{columns_hold}
-use Rattle.first_pass_grammar.specs.CodeBlocks.{closing_fence_end, fence_verdict}
+use Rattle.first_pass_grammar.specs.CodeBlocks.{closing_fence_end}
 use Rattle.first_pass_raw.specs.declared.raw_line.RawKind.TheVariants.{Code}
 use Rattle.first_pass_raw.specs.RawBlocks.{is_unmarked, IsWhole, AreWhole, after_line_at}
 use Rattle.first_pass_raw.proofs.FencedLemmas.{no_run}
@@ -65,19 +63,10 @@ module _ (text : List ℕ) (byte count to : ℕ) (many : 0 < count) (within : to
     content_fits = omega (arith, content_within, length-drop at text)
 
     content_ends : get_or line content 0 ≡ line_feed
-    content_ends =
-        let stops = prefix_len_stops is_content line 0 content_fits in
-        let plain = unmarked (at + content) (omega arith) content_within in
-        let same = byte_in content in
-        grind (arith, nat_tests, stops, plain, same)
+    content_ends = grind (arith, prefix_len_stops, content_fits, content_within, byte_in, nat_tests)
 
     next_is : after_line_at text at ≡ at + content + 1
-    next_is =
-        let e : drop content line ≡ get_or line content 0 ∷ drop (content + 1) line = drop_more line content 0 content_fits in
-        let one : unwrap_or (eol_len (drop content line)) 0 ≡ 1 =
-        ap (λ bs. unwrap_or (eol_len bs) 0) e ∙ ap (λ o. unwrap_or o 0) (feed_ends _ (drop (content + 1) line) content_ends) in
-        let size : line_len line ≡ content + unwrap_or (eol_len (drop content line)) 0 = line_len-content_end line in
-        omega (arith, size, one)
+    next_is = grind (arith, drop_more, content_fits, feed_ends, content_ends, line_len-content_end)
 
     -- it is no closing fence
     no_end : closing_fence_end byte count (line_place at line) ≡ None
@@ -92,19 +81,10 @@ module _ (text : List ℕ) (byte count to : ℕ) (many : 0 < count) (within : to
         (no_run r.left byte count filled (λ e. grind (arith, nat_tests, first, plain, e)) many)
 
     apart : ends_with_both text at (after_line_at text at) ≡ false
-    apart = apart_if (nat_lt (at + 1) (after_line_at text at)) (get_or text (after_line_at text at - 2) 0 == carriage_return)
-        (get_or text (after_line_at text at - 1) 0 == line_feed) (λ more.
-        let n : at + 1 < after_line_at text at = grind (arith, nat_tests, more) in
-        let plain = unmarked (after_line_at text at - 2) (omega arith) (omega (arith, next_is, content_within)) in
-        grind (arith, nat_tests, plain))
+    apart = grind (arith, apart_if, nat_tests, next_is, content_within)
 
     is_whole : IsWhole Code (fence_judge 0 byte count) text at
-    is_whole = record {
-      code = refl;
-      within = omega arith;
-      goes_on = ap (fence_verdict 0 (line_place at line)) no_end;
-      not_both = apart;
-    }
+    is_whole = grind (arith, no_end, apart)
 
     later : (at < after_line_at text at) × (after_line_at text at ≤ to)
     later = (omega (arith, next_is), omega (arith, next_is, content_within))

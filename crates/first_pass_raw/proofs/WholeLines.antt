@@ -7,13 +7,13 @@ use Rattle.first_pass_grammar.proofs.Common.{with_tokens-chained, after, Documen
 use Rattle.std.proofs.lemmas.List.{reverse-reverse}
 use Rattle.first_pass_tree.specs.Forest.{with_text}
 use Rattle.first_pass_tokens.proofs.ChainLemmas.{add_text-joined, with_text-chained, with_text-none}
-use Rattle.first_pass_open.specs.Path.{path_of, container_of, with_container}
+use Rattle.first_pass_open.specs.Path.{path_of}
 use Rattle.first_pass_open.proofs.FrontLemmas.{container_is}
 use Rattle.first_pass_open.proofs.PathLemmas.{AreIn}
 use Rattle.first_pass_open.proofs.PlaceLemmas.{line_start_end}
 use Rattle.first_pass_names.proofs.NameLemmas.{extends_none}
 use Rattle.first_pass_raw.specs.declared.verdict.Verdict.TheVariants.{GoesOn}
-use Rattle.first_pass_raw.specs.RawBlocks.{range_of, IsWhole, AreWhole, after_line_at, extent_from}
+use Rattle.first_pass_raw.specs.RawBlocks.{range_of, IsWhole, AreWhole, after_line_at}
 use Rattle.first_pass_raw.specs.declared.raw_line.RawKind.{RawKind}
 use Rattle.first_pass_raw.proofs.ExtentLemmas.{ReadSoFar, LineAppended, LineJudged, lines_path, lines_start, line_read, read_more}
 use Rattle.first_pass_raw.proofs.RawLineLemmas.{raw_one}
@@ -33,9 +33,7 @@ only_open spine (x ∷ []) none is some one = sym (reverse-reverse spine) ∙ sy
 -- no container is open if the only open node is a fenced code block
 pub code_path : (options : Options) (f : Forest Item) (ix : TreeIndex) (code : Item) (info : CowIndex)
     → f.spine ≡ ix ∷ [] → item_at f ix ≡ Some code → code.body ≡ FencedCodeBlock info → path_of options f ≡ []
-code_path options f ix code info alone is leaf =
-    ap (λ s. path_of options (record f { spine = s })) alone
-    ∙ ap (λ c. with_container c []) (container_is options f.nodes ix code is ∙ ap (container_of options) leaf)
+code_path options f ix code info alone is leaf = grind (arith, container_is)
 
 added_if : (chain : List Item) (x : Item) (t : Bool) → add_tokens chain (if t then x ∷ [] else []) ≡ if t then add_token chain x else chain
 added_if chain x true = refl
@@ -106,13 +104,10 @@ module _ (kind : RawKind) (d : Document) (judge : Place → Place → Verdict) (
   more_whole none (suc lines) at to read (whole, further) = more_whole none lines (after_line_at d.text at) to (one_more none at read whole) further
 
   text_start : IsCharBoundary d.text first → TextTo first
-  text_start here =
-      let start = lines_start (range_of kind) d (extent_from d.text (path_of d.options old) judge first) old in
-      (omega arith, here, subst (ReadSoFar (range_of kind) d judge first first old) (sym (with_text-none old first first false refl)) start)
+  text_start here = grind (arith, lines_start, with_text-none)
 
   -- whole lines from the first offset on, if no container is around them
   pub whole_start : IsCharBoundary d.text first → (bytes : List ℕ) (to : ℕ) → bytes ≡ d.text → (lines : ℕ) × AreWhole kind judge bytes lines first to
       → (to ≡ first) ⊎ ((options : Options) → path_of options old ≡ []) → TextTo to
   whole_start here bytes to same (lines, whole) (inl none) = subst TextTo (sym none) (text_start here)
-  whole_start here bytes to same (lines, whole) (inr none) =
-      more_whole (none d.options) lines first to (text_start here) (subst (λ bs. AreWhole kind judge bs lines first to) same whole)
+  whole_start here bytes to same (lines, whole) (inr none) = grind (arith, more_whole, text_start)

@@ -1,7 +1,7 @@
 -- The last child of the innermost open node after a leaf block is added to it.
-use Rattle.std.proofs.Common.{arith, ◌≡◌, ℕ, ◌+◌, Bool, true, false, List, ◌++◌, length, map, refl, ap, ◌∙◌, if◌then◌else◌}
+use Rattle.std.proofs.Common.{arith, ◌≡◌, ℕ, ◌+◌, true, false, List, ◌++◌, length, map, ap, ◌∙◌, if◌then◌else◌}
 use Rattle.first_pass_grammar.proofs.Common.{option_map_or, Item, ItemBody, Forest, added, at_depth, body_at, is_paragraph_body, begins_paragraph, Document}
-use Rattle.first_pass_grammar.proofs.Common.{Closed, OtherClosed, ParagraphAt, Frame, AreBelow, IsPlain, AreEachNode, ShowsNothing, SilentClosed}
+use Rattle.first_pass_grammar.proofs.Common.{Closed, OtherClosed, ParagraphAt, Frame, AreBelow, IsPlain, AreEachNode, ShowsNothing, SilentClosed, cond_both}
 use Rattle.first_pass_completion.proofs.SilentTexts.{silent_added}
 use Rattle.first_pass_lists.specs.Closing.{top_body, is_definition_list}
 use Rattle.first_pass_ready.specs.State.{closed_elsewhere, closed_in, AreOpen}
@@ -27,16 +27,12 @@ closed_added f items none =
     ∙ ap (λ z. option_map_or (closed_elsewhere (length f.nodes)) z OtherClosed) (body_after f.nodes (at_depth k items))
     ∙ begun_is (length f.nodes) k items
 
-silent_by : (nodes : List (ℕ × Item)) (k : ℕ) (items : List (ℕ × Item)) (t : Bool) → begins_paragraph items ≡ t
-    → (begins_paragraph items ≡ true → AreEachNode ShowsNothing items)
-    → SilentClosed (nodes ++ at_depth k items) (if t then ParagraphAt (length nodes) else OtherClosed)
-silent_by nodes k items true is shows = silent_added nodes k items is (shows is)
-silent_by nodes k items false is shows = tt
-
 -- a paragraph without any part of a table; or another block
 pub silent_begun : (nodes : List (ℕ × Item)) (k : ℕ) (items : List (ℕ × Item)) → (begins_paragraph items ≡ true → AreEachNode ShowsNothing items)
     → SilentClosed (nodes ++ at_depth k items) (begun_at (length nodes) items)
-silent_begun nodes k items shows = silent_by nodes k items (begins_paragraph items) refl shows
+silent_begun nodes k items shows =
+    cond_both (begins_paragraph items) (ParagraphAt (length nodes)) OtherClosed (SilentClosed (nodes ++ at_depth k items))
+    (λ is. silent_added nodes k items is (shows is)) (λ none. tt)
 
 -- open nodes stay open when items are added
 pub open_added : (d : Document) (f : Forest Item) (items : List (ℕ × Item)) (frames : List Frame) → AreBelow (length f.nodes) (map (λ ix. ix.0) f.spine)
@@ -47,6 +43,4 @@ open_added d f items frames below o =
 
 pub no_list_added : (d : Document) (f : Forest Item) (items : List (ℕ × Item)) (frames : List Frame) → IsPlain frames
     → AreOpen d.options (added f items).nodes f.spine frames → is_definition_list (top_body (added f items)) ≡ false
-no_list_added d f items frames plain o =
-    let g : Forest Item = added f items in
-    top_no_definitions d.options (top_body g) frames (top_of d.options g.nodes g.spine frames o) plain
+no_list_added d f items frames plain o = grind (arith, top_no_definitions, top_of)

@@ -1,10 +1,10 @@
 -- A container is opened in the tree, after the nodes that are already open.
-use Rattle.std.proofs.Common.{◌≡◌, ℕ, suc, ◌+◌, Bool, false, List, [], ◌∷◌, ◌++◌, length, map, Option, Some, None, IfSome, MatchOption, refl, sym, ap}
-use Rattle.std.proofs.Common.{subst, ◌∙◌, arith, option_and_then}
+use Rattle.std.proofs.Common.{◌≡◌, ℕ, suc, ◌+◌, Bool, false, List, [], ◌∷◌, ◌++◌, length, map, Option, Some, None, refl, ap, subst, ◌∙◌, arith}
+use Rattle.std.proofs.Common.{option_and_then}
 use Rattle.first_pass_grammar.proofs.Common.{length-map, Item, ItemBody, DefinitionList, Options, TreeIndex, Forest, IsForest, IsOpenPath, IsLastAt, depths}
 use Rattle.first_pass_grammar.proofs.Common.{body_at, in_table, appended, pushed, Place, Document, around, footnote_head_at, Start, start_at, Continues}
-use Rattle.first_pass_grammar.proofs.Common.{Opening, Level, may_define, opening_of, OpensBy, OpensFootnote, Opens, Tables, OtherClosed, Frame, InContainer}
-use Rattle.first_pass_grammar.proofs.Common.{containers_of, AreBelow, IsPlain, last-order}
+use Rattle.first_pass_grammar.proofs.Common.{Opening, Level, may_define, opening_of, OpensBy, Opens, Tables, OtherClosed, Frame, InContainer, containers_of}
+use Rattle.first_pass_grammar.proofs.Common.{AreBelow, IsPlain, last-order}
 use Rattle.first_pass_tree.specs.Forest.{in_table_by}
 use Rattle.first_pass_grammar.specs.declared.kind.Container.{Container}
 use Rattle.first_pass_completion.proofs.Completions.{fresh}
@@ -16,6 +16,7 @@ use Rattle.first_pass_ready.specs.State.{is_footnote_in_another, frame_of, AreOp
 use Rattle.first_pass_ready.proofs.ClosedIn.{plain_top, top_of}
 use Rattle.first_pass_ready.proofs.OpenLemmas.{open_path, open_below, HasFrame, has_frame, frame-append, get_end}
 use Rattle.first_pass_ready.proofs.PopLemmas.{ready_as}
+use Rattle.first_pass_lists.proofs.MovedLemmas.{current_is_last}
 
 -- a node that is opened after others
 pub opened_too : (options : Options) (nodes : List (ℕ × Item)) (k : ℕ) (x : Item) (s : List TreeIndex) (frames : List Frame) (frame : Frame)
@@ -76,17 +77,13 @@ begun_ready d defined f x c frames from lines is apart o k =
 -- what begins if no footnote definition does
 pub opens_bare : (d : Document) (l : Level) (p : Place) (lines : List Place) (opening : Opening)
     → footnote_head_at (around d l.path) p ≡ None → OpensBy d l.path p lines (start_at d.options (may_define d l) p) opening → Opens d l p lines opening
-opens_bare d l p lines opening bare h =
-    subst (λ z. MatchOption z (OpensBy d l.path p lines (start_at d.options (may_define d l) p) opening) (λ head. OpensFootnote d p lines head opening))
-    (sym bare) h
+opens_bare d l p lines opening bare h = rw bare h
 
 -- the start of a container opens it
 pub opens_start : (d : Document) (l : Level) (p : Place) (lines : List Place) (s : Start) → footnote_head_at (around d l.path) p ≡ None
     → start_at d.options (may_define d l) p ≡ Some s → Opens d l p lines (opening_of d l.path p lines s)
 unfolding OpensBy
-opens_start d l p lines s bare begins =
-    let opening : Opening = opening_of d l.path p lines s in
-    opens_bare d l p lines opening bare (subst (λ o. OpensBy d l.path p lines o opening) (sym begins) refl)
+opens_start d l p lines s bare begins = grind (arith, opens_bare)
 
 -- if the innermost open node is no list, neither is its frame
 pub plain_open : (options : Options) (f : Forest Item) (frames : List Frame) → AreOpen options f.nodes f.spine frames → is_list (top_body f) ≡ false
@@ -102,8 +99,7 @@ current_by ds n c (ix ∷ s) path last below = (last-order ds (length s + 1) (le
 pub current_after : (f : Forest Item) (c : TreeIndex) → IsForest f → f.current ≡ Some c
     → AreBelow (length f.nodes) (map (λ (i : TreeIndex). i.0) f.spine) → AreBelow c.0 (map (λ (i : TreeIndex). i.0) f.spine)
 current_after f c forest current below =
-    current_by (depths f.nodes) (length f.nodes) c.0 f.spine forest.opened
-    (subst (λ z. IfSome z (λ (c : TreeIndex). IsLastAt (depths f.nodes) (length f.spine + 1) c.0)) current forest.at_current) below
+    current_by (depths f.nodes) (length f.nodes) c.0 f.spine forest.opened (current_is_last f c forest current) below
 
 -- If only containers and lists are open, no table is.
 no_table_at : (options : Options) (o : Option ItemBody) (frame : Frame) (outer : Bool) → option_and_then (frame_of options) o ≡ Some frame

@@ -1,18 +1,16 @@
 -- A line is entered after the prefixes of the containers that it continues: a blank line is read, or blocks begin at
 -- a place in it.
-use Rattle.std.proofs.Common.{◌≡◌, ℕ, zero, suc, ◌+◌, ◌<◌, ◌==◌, nat_lt, Bool, true, false, not, ◌||◌, ◌&&◌, List, [], ◌∷◌, length, map, drop, Option, Some}
-use Rattle.std.proofs.Common.{None, is_some, refl, sym, ap, subst, ◌∙◌, arith, if◌then◌else◌, MatchOption, option_map, option_and_then}
-use Rattle.first_pass_grammar.proofs.Common.{nat_tests, prefix_len, option_map_or, Item, ItemBody, DefinitionListDefinition, TreeIndex, Forest}
-use Rattle.first_pass_grammar.proofs.Common.{with_body_at, body_at, line_feed, carriage_return, colon, greater_than, left_bracket, circumflex, has}
-use Rattle.first_pass_grammar.proofs.Common.{footnotes, footnote_head, begins, is_white, eol_len, blank_len, Rest, column_of_byte, next_column}
-use Rattle.first_pass_grammar.proofs.Common.{after_columns, indent, past_quote_byte, hrule_len, list_marker, item_of, definition_of, Place, Context}
-use Rattle.first_pass_grammar.proofs.Common.{at_rest, has_columns, prefix, after, is_quote, Before, Last, list_is_open, Blank, all_taken, unindented}
-use Rattle.first_pass_grammar.proofs.Common.{is_blank_rest, definition_marker_at, footnote_prefix, footnote_at, footnote_head_at, start_at, Document}
-use Rattle.first_pass_grammar.proofs.Common.{around, BlankLine, Line, Inside, Blanks, Opening, OpensLeaf, OpensFootnote, OpensAs, Opens, is_blank_after}
-use Rattle.first_pass_grammar.proofs.Common.{next_is_blank, Level, level, may_define, Lines, end_before, OpensBy, Tables, node_of, Closed, Frame}
-use Rattle.first_pass_grammar.proofs.Common.{InContainer, containers_of, AreBelow, last_plain, body-changed, body-other, or-true, or-false, and-true}
-use Rattle.first_pass_grammar.proofs.Common.{cond-false, and_left, and_right, Options}
-use Rattle.first_pass_scan.specs.Markers.{bullet_marker, ordered_marker, item_by}
+use Rattle.std.proofs.Common.{◌≡◌, ℕ, zero, suc, ◌<◌, ◌==◌, Bool, true, false, not, ◌||◌, List, [], ◌∷◌, length, map, Option, Some, None, is_some, refl, sym}
+use Rattle.std.proofs.Common.{ap, subst, ◌∙◌, arith, if◌then◌else◌, option_map, option_and_then}
+use Rattle.first_pass_grammar.proofs.Common.{nat_tests, option_map_or, Item, ItemBody, DefinitionListDefinition, TreeIndex, Forest, with_body_at, body_at}
+use Rattle.first_pass_grammar.proofs.Common.{line_feed, carriage_return, greater_than, left_bracket, has, footnote_head, begins, is_white, blank_len, Rest}
+use Rattle.first_pass_grammar.proofs.Common.{column_of_byte, next_column, after_columns, past_quote_byte, list_marker, item_of, definition_of, Place, Context}
+use Rattle.first_pass_grammar.proofs.Common.{at_rest, has_columns, prefix, after, is_quote, Before, Last, list_is_open, Blank, is_blank_rest}
+use Rattle.first_pass_grammar.proofs.Common.{definition_marker_at, footnote_head_at, Document, around, BlankLine, Line, Inside, Blanks, OpensLeaf, OpensAs}
+use Rattle.first_pass_grammar.proofs.Common.{Opens, is_blank_after, Level, level, may_define, Lines, end_before, OpensBy, Tables, Closed, Frame, InContainer}
+use Rattle.first_pass_grammar.proofs.Common.{containers_of, AreBelow, last_plain, body-changed, body-other, or-true, or-false, and-true, cond-false, and_left}
+use Rattle.first_pass_grammar.proofs.Common.{and_right, Options}
+use Rattle.first_pass_scan.specs.Markers.{bullet_marker, ordered_marker}
 use Rattle.first_pass_grammar.specs.declared.kind.Container.{Container}
 use Rattle.first_pass_grammar.specs.declared.kind.Container.TheVariants.{BlockQuote}
 use Rattle.first_pass_grammar.specs.Kinds.{item_at}
@@ -23,11 +21,10 @@ use Rattle.first_pass_open.proofs.BlankPlaces.{blank_kind}
 use Rattle.first_pass_completion.proofs.States.{open_nodes}
 use Rattle.first_pass_completion.proofs.Completions.{counted_after, completes-enter, completes-blank_line, completes-only_blank}
 use Rattle.first_pass_open.specs.OpenBlock.{closed_by}
-use Rattle.first_pass_lists.specs.Closing.{top_body, is_item, popped, empty_item_closed_by, empty_item_closed, blank_read_by, blank_read}
+use Rattle.first_pass_lists.specs.Closing.{top_body, popped, empty_item_closed_by, empty_item_closed, blank_read_by, blank_read}
 use Rattle.first_pass_lists.specs.declared.state.PassState.{PassState}
 use Rattle.first_pass_open.specs.Path.{container_of, container_at, with_container, path_in, path_of}
-use Rattle.first_pass_ready.specs.State.{item_columns, body_without_indent, top_without_indent, closed_in, AreOpen, ReadyAt, ReadyBeforeLine}
-use Rattle.first_pass_ready.specs.State.{ReadyInItem, ReadyEmpty, ReadyWith, Ready}
+use Rattle.first_pass_ready.specs.State.{body_without_indent, top_without_indent, closed_in, AreOpen, ReadyAt, ReadyInItem, ReadyEmpty, ReadyWith, Ready}
 use Rattle.first_pass_ready.proofs.OpenLemmas.{open_path}
 use Rattle.first_pass_ready.proofs.OldFootnotes.{ends_here, stays_unblank, stays_in_list, goes_on_at}
 use Rattle.first_pass_tree.proofs.BodyLemmas.{not_changed}
@@ -36,19 +33,13 @@ use Rattle.first_pass_ready.proofs.StateLemmas.{ready_plain, item_popped, same_p
 use Rattle.first_pass_ready.proofs.ClosedIn.{IsTop, top_of, top_in, HasDefined, open_defined, plain_not_open}
 use Rattle.first_pass_ready.proofs.ItemBodies.{item_body, item_container, item_columns_of, item_path, without_indent_is, after_zero, item_own, item_kind}
 use Rattle.first_pass_grammar.proofs.Sequences.OpenerFacts.{start_none}
+use Rattle.first_pass_ready.proofs.BegunLemmas.{opens_bare}
 
--- Columns do not change whether a line is blank.
 some_mapped : (o : Option ℕ) (f : ℕ → ℕ) → is_some (option_map f o) ≡ is_some o
 some_mapped o f = grind arith
 
 white_first : (b : ℕ) (bs : List ℕ) → is_white b ≡ true → is_some (blank_len (b ∷ bs)) ≡ is_some (blank_len bs)
-white_first b bs h =
-    let n : ℕ = prefix_len is_white bs in
-    let m : ℕ = prefix_len is_white (b ∷ bs) in
-    let z : 1 + n ≡ suc n = omega arith in
-    let first : m ≡ 1 + n = rw h refl in
-    some_mapped (eol_len (drop m (b ∷ bs))) (λ k. m + k) ∙ ap (λ j. is_some (eol_len (drop j (b ∷ bs)))) (first ∙ z)
-    ∙ sym (some_mapped (eol_len (drop n bs)) (λ k. n + k))
+white_first b bs h = grind (arith, some_mapped)
 
 byte_column : (r s : Rest) (left : List ℕ) → column_of_byte r left ≡ Some s → is_some (blank_len s.left) ≡ is_some (blank_len left)
 byte_column r s [] h = cc
@@ -56,14 +47,14 @@ byte_column r s (b ∷ bs) h = grind (arith, nat_tests, h, white_first b bs)
 
 column_by : (o : ℕ) (r s : Rest) → r.owed ≡ o → next_column r ≡ Some s → is_blank_rest s ≡ is_blank_rest r
 column_by zero r s e h = byte_column r s r.left (let z : column_of_byte r r.left ≡ next_column r = rw e refl in z ∙ h)
-column_by (suc o) r s e h =
-    (let z : Some (record r { owed = o }) ≡ next_column r = rw e refl in let y : record r { owed = o } ≡ s = cc in ap is_blank_rest (sym y))
+column_by (suc o) r s e h = grind arith
 
 columns_by : (k : ℕ) (r : Rest) (o : Option Rest) → next_column r ≡ o → ((s : Rest) → is_blank_rest (after_columns k s) ≡ is_blank_rest s)
     → is_blank_rest (option_map_or (after_columns k) o r) ≡ is_blank_rest r
 columns_by k r None e f = refl
 columns_by k r (Some s) e f = f s ∙ column_by r.owed r s refl e
 
+-- Columns do not change whether a line is blank.
 pub blank_columns : (k : ℕ) (r : Rest) → is_blank_rest (after_columns k r) ≡ is_blank_rest r
 blank_columns zero r = refl
 blank_columns (suc k) r = columns_by k r (next_column r) refl (λ s. blank_columns k s)
@@ -84,16 +75,11 @@ pub blank_after : (b : ItemBody) (n : ℕ) (path : List Container) (r : Rest)
 unfolding after
 blank_after b n path r h = ap is_blank_after (after_zero b path r) ∙ blank_after_item b n (after path r) h
 
--- No container begins on a blank line.
-first_by : (t u v : Bool) (b : ℕ) (bs : List ℕ) → is_white b ≡ t → (b == line_feed) ≡ u → (b == carriage_return) ≡ v → is_some (blank_len (b ∷ bs)) ≡ true
-    → (t || (u || v)) ≡ true
-first_by false false false b bs e f g h = rw (e, f, g) at h
-first_by t u v b bs e f g h = refl
-
+-- the first byte of a blank line is white space, or begins its line ending
 first_of_blank : (b : ℕ) (bs : List ℕ) → is_some (blank_len (b ∷ bs)) ≡ true → (is_white b || ((b == line_feed) || (b == carriage_return))) ≡ true
-first_of_blank b bs h = first_by (is_white b) (b == line_feed) (b == carriage_return) b bs refl refl refl h
+first_of_blank b bs h = grind (arith, nat_tests, h)
 
--- nor does a byte that is neither white space nor a line ending
+-- a blank line does not begin with another byte
 blank_begins : (c : ℕ) → (is_white c || ((c == line_feed) || (c == carriage_return))) ≡ false → (bs : List ℕ) → is_some (blank_len bs) ≡ true
     → begins c bs ≡ false
 blank_begins c other [] h = refl
@@ -106,6 +92,7 @@ no_quote_byte : (r : Rest) (left : List ℕ) → is_some (blank_len left) ≡ tr
 no_quote_byte r [] h = refl
 no_quote_byte r (b ∷ bs) h = cond-false (b == greater_than) _ None (blank_begins greater_than refl (b ∷ bs) h)
 
+-- no block quote begins on a blank line
 no_quote : (r : Rest) → is_blank_rest r ≡ true → prefix (BlockQuote None) r ≡ None
 unfolding prefix
 no_quote r h =
@@ -122,44 +109,33 @@ unfolding list_marker
 no_marker [] h = refl
 no_marker (b ∷ bs) h = let f = first_of_blank b bs h in marker_by b bs f
 
+-- nor does a list item
 no_item : (r : Rest) → is_blank_rest r ≡ true → item_at r ≡ None
 unfolding item_at item_of
-no_item r h =
-    let q : Rest = all_taken r in
-    none_if (nat_lt (indent r) 4) _
-    (none_if ((q.owed == 0) && not (is_some (hrule_len q.left))) _ (ap (item_by (indent r) q) (no_marker q.left (blank_columns (indent r) r ∙ h))))
+no_item r h = grind (arith, none_if, no_marker, blank_columns)
 
 -- nor does a definition
 no_definition : (r : Rest) → is_blank_rest r ≡ true → definition_marker_at r ≡ None
 unfolding definition_marker_at definition_of
-no_definition r h =
-    let q : Rest = all_taken r in
-    none_if (nat_lt (indent r) 4) _ (cond-false ((q.owed == 0) && begins colon q.left) _ None
-    (and_right (q.owed == 0) (begins colon q.left) (blank_begins colon refl q.left (blank_columns (indent r) r ∙ h))))
+no_definition r h = grind (arith, none_if, cond-false, and_right, blank_begins, blank_columns)
 
--- nor does a footnote definition
 no_head_by : (prefix : List ℕ → Option ℕ) (bs : List ℕ) → begins left_bracket bs ≡ false → footnote_head prefix false bs ≡ None
 unfolding footnote_head
-no_head_by prefix bs h =
-    cond-false (begins left_bracket bs && begins circumflex (drop 1 bs)) _ None (and_left (begins left_bracket bs) (begins circumflex (drop 1 bs)) h)
+no_head_by prefix bs h = grind (arith, cond-false, and_left)
 
+-- nor does a footnote definition
 no_head_at : (around : Context) (p : Place) → is_blank_rest p.rest ≡ true → footnote_head_at around p ≡ None
 unfolding footnote_head_at
-no_head_at around p h =
-    let left : List ℕ = (unindented p).rest.left in
-    none_if (has around.options footnotes && nat_lt (indent p.rest) 4) (footnote_at false around left)
-    (no_head_by (footnote_prefix around) left (blank_begins left_bracket refl left (blank_columns (indent p.rest) p.rest ∙ h)))
+no_head_at around p h = grind (arith, none_if, no_head_by, blank_begins, blank_columns)
 
--- a blank line at a place
+-- on a blank line only a blank line opens
 pub opens_blank : (d : Document) (l : Level) (p : Place) (lines : List Place)
     → is_blank_rest p.rest ≡ true → Opens d l p lines (OpensLeaf BlankLine Line lines)
 unfolding OpensBy OpensAs
 opens_blank d l p lines h =
-    let opening : Opening = OpensLeaf BlankLine Line lines in
     let may : Bool = may_define d l in
-    subst (λ o. MatchOption o (OpensBy d l.path p lines (start_at d.options may p) opening) (λ head. OpensFootnote d p lines head opening))
-    (sym (no_head_at (around d l.path) p h))
-    (subst (λ o. OpensBy d l.path p lines o opening)
+    opens_bare d l p lines (OpensLeaf BlankLine Line lines) (no_head_at (around d l.path) p h)
+    (subst (λ o. OpensBy d l.path p lines o (OpensLeaf BlankLine Line lines))
     (sym (start_none d.options may p (no_item p.rest h) (none_if may _ (no_definition p.rest h)) (no_quote p.rest h)))
     (Blank, blank_kind d.options p.rest h, refl))
 
@@ -220,9 +196,9 @@ module _ (d : Document) (defined : Tables) (r : PassState) (p : Place) (lines : 
       (subst (λ t. ReadyAt d defined t (blank_read_by r b).blank Line lines) (sym (same_tree b none))
       (subst (λ t. ReadyAt d defined r.tree t Line lines) counts now))
 
-blank_place : (line : Place) (o : Option Rest) → is_blank_after o ≡ true → (q : Rest) × (o ≡ Some q) × (is_blank_rest q ≡ true)
-blank_place line None h = cc
-blank_place line (Some q) h = (q, refl, h)
+blank_place : (o : Option Rest) → is_blank_after o ≡ true → (q : Rest) × (o ≡ Some q) × (is_blank_rest q ≡ true)
+blank_place None h = cc
+blank_place (Some q) h = (q, refl, h)
 
 -- only the nodes before a place matter
 pub path_below : (options : Options) (nodes other : List (ℕ × Item)) (n : ℕ) (s : List TreeIndex)
@@ -256,9 +232,7 @@ module _ (d : Document) (defined : Tables) (r : PassState) (line : Place) (lines
       change x = record { start = x.start; «end» = x.«end»; body = item_body b 0 }
 
       on_path : after (item_container b empty.columns ∷ path) line.rest ≡ Some rest
-      on_path =
-          sym (ap (λ s. after (path_in d.options r.tree.nodes s) line.rest) empty.spine
-          ∙ ap (λ o. after (with_container o path) line.rest) (ap (option_and_then (container_of d.options)) is ∙ item_path d.options b empty.columns)) ∙ goes
+      on_path = grind (arith, item_path)
 
       blank_item : is_blank_rest rest ≡ true → is_blank_after (after (item_container b 0 ∷ path) line.rest) ≡ true
       blank_item blank = blank_after b empty.columns path line.rest (ap is_blank_after on_path ∙ blank)
@@ -273,17 +247,13 @@ module _ (d : Document) (defined : Tables) (r : PassState) (line : Place) (lines
       zero_body = body-changed r.tree.nodes empty.place.0 change (item_body b empty.columns) (item_body b 0) is (λ x h. refl)
 
       zero_same : empty.columns ≡ 0 → zero_tree ≡ r.tree
-      zero_same none = ap (λ ns. record r.tree { nodes = ns })
-          (not_changed r.tree.nodes empty.place.0 change (item_body b 0) (is ∙ ap (λ n. Some (item_body b n)) none)
-          (λ x h. ap (λ z. node_of x.start x.«end» z) (sym h)))
+      zero_same none = grind (arith, not_changed)
 
       -- the item that takes only blank lines, before the blank line and after it
       zero_ready : (blank : Bool) → r.blank ≡ blank → is_blank_rest rest ≡ true → ReadyInItem d defined r.tree e (line ∷ lines) blank
           → ReadyAt d defined zero_tree blank (Blanks e) (line ∷ lines)
       zero_ready true run h ready = subst (λ f. ReadyAt d defined f true (Blanks e) (line ∷ lines)) (sym (zero_same (empty.none run))) ready
-      zero_ready false run h ready =
-          subst (λ f. ReadyAt d defined f false (Blanks e) (line ∷ lines)) zero_is
-          (subst (ReadyBeforeLine d defined r.tree e (line ∷ lines)) (ap is_blank_after goes ∙ h) ready)
+      zero_ready false run h ready = grind (arith, zero_is)
 
       without_indent_blank : is_blank_rest rest ≡ true → ReadyAt d defined zero_tree true (Blanks e) lines
       without_indent_blank h =
@@ -297,7 +267,7 @@ module _ (d : Document) (defined : Tables) (r : PassState) (line : Place) (lines
           let same : path ≡ containers_of inner.outer =
           sym (path_below d.options r.tree.nodes zero_tree.nodes empty.place.0 empty.outer (λ i h. body-other r.tree.nodes empty.place.0 i change h)
           inner.completes.below.1) ∙ open_path d.options zero_tree.nodes empty.outer inner.outer inner.are_open.1 in
-          let q = blank_place line (after (containers_of frames) line.rest)
+          let q = blank_place (after (containers_of frames) line.rest)
           (subst (λ z. is_blank_after (after (c ∷ z) line.rest) ≡ true) same (blank_item h)) in
           record {
             frames = frames;
@@ -313,23 +283,11 @@ module _ (d : Document) (defined : Tables) (r : PassState) (line : Place) (lines
       -- the state after the blank line is read
       read_is : r.begin_list_item ≡ Some e → blank_read r ≡ record r { tree = zero_tree; blank = true }
       unfolding blank_read
-      read_is some = ap (blank_read_by r) top_item ∙ blank_item_is r e b empty.columns some ∙ ap (λ f. record r { tree = f; blank = true })
-          (without_indent_is r.tree empty.place empty.outer b empty.columns empty.spine)
+      read_is some = grind (arith, top_item, blank_item_is, without_indent_is)
 
       ready_without_indent : r.begin_list_item ≡ Some e → is_blank_rest rest ≡ true → Ready d defined (blank_read r) lines
       unfolding Ready
-      ready_without_indent some h =
-          let now : PassState = record r { tree = zero_tree; blank = true } in
-          let ready : ReadyEmpty d defined now e lines = record {
-            place = empty.place;
-            outer = empty.outer;
-            columns = 0;
-            spine = empty.spine;
-            item = ap (option_and_then item_columns) zero_body ∙ item_columns_of b 0;
-            none = λ on. refl;
-            ready = without_indent_blank h;
-          } in
-          subst (λ q. ReadyWith d defined q lines q.begin_list_item) (sym (read_is some)) (subst (λ o. ReadyWith d defined now lines o) (sym some) ready)
+      ready_without_indent some h = grind (arith, zero_body, item_columns_of, without_indent_blank, read_is)
 
   blank_with : (o : Option ℕ) → r.begin_list_item ≡ o → ends_here d.options r.tree r.blank ≡ false → is_blank_rest rest ≡ true
       → ReadyWith d defined r (line ∷ lines) o → Ready d defined (blank_read r) lines
@@ -345,11 +303,7 @@ module _ (d : Document) (defined : Tables) (r : PassState) (line : Place) (lines
 
   module _ (e : ℕ) (empty : ReadyEmpty d defined r e (line ∷ lines)) where
     finished_is : (blank : Bool) → r.blank ≡ blank → empty_item_closed_by r (Some e) ≡ record (if blank then popped e r else r) { begin_list_item = None }
-    finished_is blank is =
-        let b = own e empty in
-        ap (λ o. record (if r.blank && is_item o then popped e r else r) { begin_list_item = None }) (top_item e empty b.0 b.1)
-        ∙ ap (λ t. record (if r.blank && t then popped e r else r) { begin_list_item = None }) (item_kind b.0 empty.columns).0
-        ∙ ap (λ t. record (if t then popped e r else r) { begin_list_item = None }) (and-true r.blank ∙ is)
+    finished_is blank is = grind (arith, own, top_item, item_kind, and-true)
 
     -- the item ends before a line that is not blank
     without_indent_ends : (blank : Bool) → r.blank ≡ blank → is_blank_rest rest ≡ false → ReadyInItem d defined r.tree e (line ∷ lines) blank
@@ -380,17 +334,12 @@ module _ (d : Document) (defined : Tables) (r : PassState) (line : Place) (lines
         (stays_in_list d defined g true (line ∷ lines) left.ready b 0 left.stands) left.ready in
         subst (λ (q : PassState). ReadyAt d defined q.tree q.blank (Inside (at_rest line rest)) lines) (sym now)
         (subst (λ t. ReadyAt d defined g t (Inside (at_rest line rest)) lines) (sym is) inside)
-    without_indent_ends false is h ready =
-        let test : next_is_blank (path_of d.options r.tree) (line ∷ lines) ≡ false = ap is_blank_after goes ∙ h in
-        let now : ReadyAt d defined r.tree false Line (line ∷ lines) = subst (ReadyBeforeLine d defined r.tree e (line ∷ lines)) test ready in
-        subst (λ t. ReadyAt d defined r.tree t (Inside (at_rest line rest)) lines) (sym is)
-        (ready_enter d defined r.tree false line lines rest goes (stays_unblank d.options r.tree) now)
+    without_indent_ends false is h ready = grind (arith, ready_enter, stays_unblank)
 
   entered_with : (o : Option ℕ) → ends_here d.options r.tree r.blank ≡ false → is_blank_rest rest ≡ false → ReadyWith d defined r (line ∷ lines) o
       → (let q : PassState = empty_item_closed_by r o in ReadyAt d defined q.tree q.blank (Inside (at_rest line rest)) lines)
   entered_with None stays h ready = ready_enter d defined r.tree r.blank line lines rest goes stays ready
-  entered_with (Some e) stays h ready = subst (λ (q : PassState). ReadyAt d defined q.tree q.blank (Inside (at_rest line rest)) lines)
-      (sym (finished_is e ready r.blank refl)) (without_indent_ends e ready r.blank refl h ready.ready)
+  entered_with (Some e) stays h ready = grind (arith, finished_is, without_indent_ends)
 
   -- the place in a line that is not blank and that all open containers continue
   pub ready_line : ends_here d.options r.tree r.blank ≡ false → is_blank_rest rest ≡ false → Ready d defined r (line ∷ lines)

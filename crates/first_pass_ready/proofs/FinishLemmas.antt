@@ -1,38 +1,105 @@
 -- A new block ends an innermost list, and notes a blank line before it.
 use Rattle.std.proofs.Common.{arith, ◌≡◌, ℕ, ◌<◌, Bool, true, false, not, ◌||◌, List, [], ◌∷◌, map, Option, Some, None, refl, sym, ap, subst, ◌∙◌}
-use Rattle.std.proofs.Common.{if◌then◌else◌, option_and_then}
+use Rattle.std.proofs.Common.{if◌then◌else◌, option_and_then, length, ◌+◌}
 use Rattle.first_pass_grammar.proofs.Common.{option_map_or, Item, ItemBody, DefinitionList, ListFlags, TreeIndex, Forest, IsForest, with_body_at, body_at}
-use Rattle.first_pass_grammar.proofs.Common.{Place, Document, is_paragraph_body, Inside, Opening, Opens, Tables, node_of, list_flags, flagged, Closed}
+use Rattle.first_pass_grammar.proofs.Common.{Place, Document, is_paragraph_body, Inside, Opening, Opens, Tables, list_flags, flagged, Closed}
 use Rattle.first_pass_grammar.proofs.Common.{OtherClosed, ParagraphAt, DefinitionClosed, TitleAt, Frame, InContainer, InList, InDefinitions, IsPlain}
-use Rattle.first_pass_grammar.proofs.Common.{StandsIn, ShowsNothing, SilentClosed, body-other, body-changed, Options}
+use Rattle.first_pass_grammar.proofs.Common.{StandsIn, ShowsNothing, SilentClosed, body-other, body-changed, Options, DefinitionListDefinition}
+use Rattle.first_pass_grammar.proofs.Common.{MaybeDefinitionListTitle, Before, level, last_plain, cond_both, IsLastAt, IsOpenPath, depths, last-order}
 use Rattle.first_pass_items.specs.declared.item.ItemBody.TheVariants.{List as ListBody, Paragraph as ParagraphBody}
 use Rattle.first_pass_grammar.specs.declared.kind.Container.{Container}
 use Rattle.first_pass_grammar.specs.declared.kind.Container.TheVariants.{Definition}
 use Rattle.first_pass_grammar.specs.Before.{definition_may_follow as takes_after}
 use Rattle.first_pass_grammar.specs.Completion.{last_defined}
 use Rattle.first_pass_grammar.proofs.Sequences.Finishes.{CompletesAt}
-use Rattle.first_pass_completion.proofs.Extending.{tail, StaysAt, loosened_in}
+use Rattle.first_pass_completion.proofs.Extending.{tail, loosened_in, plain_last}
 use Rattle.first_pass_completion.proofs.EarlierNodes.{IsBefore}
 use Rattle.first_pass_completion.proofs.Notes.{completes-note}
 use Rattle.first_pass_completion.proofs.States.{open_nodes}
 use Rattle.first_pass_completion.proofs.TitleNodes.{reflagged}
 use Rattle.first_pass_completion.proofs.Flags.{IsListAround, completes-reflag}
 use Rattle.first_pass_completion.proofs.SilentNodes.{from_modified}
-use Rattle.first_pass_lists.specs.Closing.{loosened_by, loosened_at, top_body, top_end, is_definition_list, is_list}
-use Rattle.first_pass_lists.specs.Closing.{empty_item_closed_by, empty_item_closed, list_closed, gap_tree, gap_marked, list_finished}
+use Rattle.first_pass_lists.specs.Closing.{loosened_by, loosened_at, top_body, top_end, is_definition_list, is_list, empty_item_closed_by, empty_item_closed}
+use Rattle.first_pass_lists.specs.Closing.{list_closed, gap_tree, list_finished, gap_marked}
 use Rattle.first_pass_lists.specs.declared.state.PassState.{PassState}
 use Rattle.first_pass_open.specs.Path.{path_of}
-use Rattle.first_pass_ready.specs.State.{frame_of, frame_at, is_footnote_in_another, closed_elsewhere, closed_in, AreOpen, ReadyAt}
+use Rattle.first_pass_ready.specs.State.{frame_of, frame_at, is_footnote_in_another, closed_elsewhere, closed_in, AreOpen, ReadyAt, closed_in_definitions}
+use Rattle.first_pass_ready.specs.State.{closed_below, closed_none}
 use Rattle.first_pass_ready.proofs.OpenLemmas.{open_path, open_below, HasFrame, has_frame}
 use Rattle.first_pass_tree.proofs.BodyLemmas.{body-later, changed_alike}
-use Rattle.first_pass_ready.proofs.ListLemmas.{list_flags_of, list_no_paragraph, list_no_container}
-use Rattle.first_pass_ready.proofs.ClosedIn.{top_of, plain_top, last_below, last_in, level_of, open_level}
-use Rattle.first_pass_ready.proofs.ClosedIn.{closed_same, closed_renamed, top_in, top_no_definitions}
-use Rattle.first_pass_ready.proofs.PopLemmas.{list_popped, list_spine, ready_as, PlainAfter, plain_after, leave_list}
+use Rattle.first_pass_ready.proofs.PopLemmas.{list_flags_of, list_no_paragraph, list_no_container, list_popped, list_spine, ready_as, PlainAfter, plain_after}
+use Rattle.first_pass_ready.proofs.PopLemmas.{leave_list, at_level}
+use Rattle.first_pass_ready.proofs.ClosedIn.{top_of, plain_top, last_below, last_in, level_of, open_level, closed_same, closed_renamed, top_in}
+use Rattle.first_pass_ready.proofs.ClosedIn.{top_no_definitions, open_last, closed_cases}
 use Rattle.first_pass_ready.proofs.TitlePops.{TitledList, title_closed, leave_title}
 pub use Rattle.first_pass_ready.proofs.PopLemmas.{OpensOther, EndsListAt}
 use Rattle.first_pass_ready.proofs.StateLemmas.{list_cases, kept_left, same_path, unnamed}
-use Rattle.first_pass_ready.proofs.Levels.{opens_as, opens_none, plain_last_in, open_before, outer_before}
+use Rattle.first_pass_completion.proofs.Moved.{takes_alike, other_alike, opens_definition}
+use Rattle.first_pass_lists.proofs.MovedLemmas.{current_is_last}
+
+abbrev stands_before : Forest Item → Bool → Before
+stands_before f run = record { last = last_in f; counted = run }
+
+-- if a definition may begin after the one tree exactly if after the other
+opens_as : (d : Document) (f g : Forest Item) (run later : Bool) (p : Place) (lines : List Place) (o : Opening) → path_of d.options g ≡ path_of d.options f
+    → takes_after (last_in f) ≡ takes_after (last_in g) → Opens d (level_of d.options f run) p lines o → Opens d (level_of d.options g later) p lines o
+opens_as d f g run later p lines o path takes opens =
+    let alike = takes_alike d (path_of d.options f) (stands_before f run) (stands_before g later) p takes in
+    subst (λ z. Opens d (level z (stands_before g later)) p lines o) (sym path) (alike.to lines o opens)
+
+-- if none may begin after the other, and the opening is none
+opens_none : (d : Document) (f g : Forest Item) (run later : Bool) (p : Place) (lines : List Place) (o : Opening)
+    → path_of d.options g ≡ path_of d.options f
+    → opens_definition o ≡ false → takes_after (last_in g) ≡ false → Opens d (level_of d.options f run) p lines o
+    → Opens d (level_of d.options g later) p lines o
+opens_none d f g run later p lines o path other none opens =
+    let alike = other_alike d (path_of d.options f) (stands_before f run) (stands_before g later) p lines o other none opens in
+    subst (λ z. Opens d (level z (stands_before g later)) p lines o) (sym path) (alike.to lines o opens)
+
+-- the last child if no list is innermost
+plain_last_in : (options : Options) (f : Forest Item) (frames : List Frame) (closed : Closed) → AreOpen options f.nodes f.spine frames → IsPlain frames
+    → closed_in f ≡ closed → last_in f ≡ last_plain closed
+plain_last_in options f frames closed o plain is =
+    sym (open_last options f.nodes f.spine frames (closed_in f) o) ∙ plain_last (closed_in f) frames plain ∙ ap last_plain is
+
+none_before : (o : ℕ) (top : Option ItemBody) → IsBefore o (closed_none top)
+none_before o (Some (DefinitionList flags)) = tt
+none_before o b = tt
+
+definitions_before : (o e place x : ℕ) (b : ItemBody) → IsBefore o (closed_in_definitions e place x b)
+definitions_before o e place x MaybeDefinitionListTitle = tt
+definitions_before o e place x (DefinitionListDefinition columns) = tt
+definitions_before o e place x b = tt
+
+elsewhere_before : (o place : ℕ) (b : ItemBody) → o < place → IsBefore o (closed_elsewhere place b)
+elsewhere_before o place ParagraphBody h = h
+elsewhere_before o place b h = tt
+
+below_before : (o e place : ℕ) (top : Option ItemBody) (x : Item) → o < place → IsBefore o (closed_below e top place x)
+below_before o e place (Some (DefinitionList flags)) x h = definitions_before o e place x.«end» x.body
+below_before o e place top x h = elsewhere_before o place x.body h
+
+-- an open node less deep than the innermost one is before the current node
+before_current : (f : Forest Item) (o c : TreeIndex) (depth : ℕ) → IsForest f → IsLastAt (depths f.nodes) depth o.0 → depth < length f.spine + 1
+    → f.current ≡ Some c → o.0 < c.0
+before_current f o c depth forest l less current =
+    last-order (depths f.nodes) depth (length f.spine + 1) o.0 c.0 l (current_is_last f c forest current) less
+
+open_before : (f : Forest Item) (ix jx : TreeIndex) (s : List TreeIndex) → IsForest f → f.spine ≡ ix ∷ jx ∷ s → IsBefore jx.0 (closed_in f)
+open_before f ix jx s forest spine =
+    let opened : IsOpenPath (depths f.nodes) (ix ∷ jx ∷ s) = subst (IsOpenPath (depths f.nodes)) spine forest.opened in
+    let n : length f.spine ≡ length (ix ∷ jx ∷ s) = ap (λ (z : List TreeIndex). length z) spine in
+    closed_cases (IsBefore jx.0) f (λ none item. none_before jx.0 (top_body f))
+    (λ c x current is. below_before jx.0 (top_end f) c.0 (top_body f) x (before_current f jx c (length s + 1) forest opened.1.0 (omega arith) current))
+
+-- the same after the innermost open node is closed, whose last child is then a paragraph
+outer_before : (f : Forest Item) (ix a b c : TreeIndex) (rest s : List TreeIndex) → IsForest f → f.spine ≡ ix ∷ rest → rest ≡ a ∷ b ∷ s
+    → f.current ≡ Some c → b.0 < c.0
+outer_before f ix a b c rest s forest spine is current =
+    let all : f.spine ≡ ix ∷ a ∷ b ∷ s = spine ∙ ap (λ z. ix ∷ z) is in
+    let opened : IsOpenPath (depths f.nodes) (ix ∷ a ∷ b ∷ s) = subst (IsOpenPath (depths f.nodes)) all forest.opened in
+    let n : length f.spine ≡ length (ix ∷ a ∷ b ∷ s) = ap (λ (z : List TreeIndex). length z) all in
+    before_current f b c (length s + 1) forest opened.1.1.0 (omega arith) current
 
 -- the nodes continue at a place in a line, and no list is innermost
 abbrev pub ReadyPlain : Document → Tables → Forest Item → Bool → Place → List Place → Type 0
@@ -104,9 +171,7 @@ loosened_is f ix b flags h = grind (arith, h)
 pub loose_is : (f : Forest Item) (ix : TreeIndex) (b : ItemBody) (flags : ListFlags) → body_at f.nodes ix.0 ≡ Some b → list_flags_of b ≡ Some flags
     → (loosened_at f ix).nodes ≡ reflagged f.nodes ix.0 true
 unfolding reflagged
-loose_is f ix b flags is listed =
-    ap (λ z. (loosened_by f ix z).nodes) is ∙ ap (λ (z : Forest Item). z.nodes) (loosened_is f ix b flags listed)
-    ∙ changed_alike f.nodes ix.0 _ _ b is (λ x h. ap (λ z. node_of x.start x.«end» (flagged true z)) (sym h))
+loose_is f ix b flags is listed = grind (arith, loosened_is, changed_alike)
 
 pub loosened_spine : (f : Forest Item) (ix : TreeIndex) (b : Option ItemBody) → (loosened_by f ix b).spine ≡ f.spine
 loosened_spine f ix b = grind arith
@@ -141,7 +206,7 @@ loose_frame options f ix b flags frame is listed framed =
     ap (option_and_then (frame_of options)) now
     ∙ loose_frame_by options b flags frame listed (subst (λ z. HasFrame options z frame) is (has_frame options (body_at f.nodes ix.0) frame framed))
 
--- a list around the innermost open node becomes loose: the last child is unchanged
+-- a list that becomes loose or tight is no paragraph
 flagged_no_paragraph : (b : ItemBody) (flags : ListFlags) → list_flags_of b ≡ Some flags → is_paragraph_body (flagged true b) ≡ false
 flagged_no_paragraph b flags h = grind (arith, h)
 
@@ -150,6 +215,7 @@ silent_flagged loose (ListBody flags list number) h = λ names depth start end. 
 silent_flagged loose (DefinitionList flags) h = λ names depth start end. refl
 silent_flagged loose b h = h
 
+-- after that, a last child that has no part of a table in it still has none
 silent_reflagged : (nodes : List (ℕ × Item)) (o : ℕ) (loose : Bool) (closed : Closed) → SilentClosed nodes closed
     → SilentClosed (reflagged nodes o loose) closed
 unfolding reflagged
@@ -167,25 +233,22 @@ IsList (InDefinitions loose) = Unit {0}
 -- a list that becomes loose is around the container in it
 list_around : (frame : Frame) (c : Container) (frames : List Frame) → IsList frame → StandsIn c (loose_frame_of frame ∷ frames)
     → IsListAround (loose_frame_of frame) c
-list_around (InContainer b) c frames list stands = absurd list
 list_around (InList byte loose) c frames list stands = tt
 list_around (InDefinitions loose) (Definition columns) frames list stands = tt
+list_around (InContainer b) c frames list stands = absurd list
 list_around frame c frames list stands = absurd stands
+
+-- the body of a list that has a frame, and its flags
+list_body : (options : Options) (b : Option ItemBody) (frame : Frame) → IsList frame → HasFrame options b frame
+    → (x : ItemBody) × (flags : ListFlags) × (b ≡ Some x) × (list_flags_of x ≡ Some flags)
+list_body options b (InContainer c) list h = absurd list
+list_body options b (InList byte loose) list h = (ListBody (list_flags (not loose)) byte h.0, list_flags (not loose), h.1, refl)
+list_body options b (InDefinitions loose) list h = (DefinitionList (list_flags (not loose)), list_flags (not loose), h, refl)
 
 -- no list is a container
 no_list_at : (options : Options) (b : Option ItemBody) (c : Container) → HasFrame options b (InContainer c) → (f : Forest Item) (ix : TreeIndex)
     → loosened_by f ix b ≡ f
 no_list_at options b c h f ix = grind (arith, h)
-
--- the frames around a container in a list after a blank line was noted; no footnote definition is directly in another
-loosened_frames : (c : Container) (frame : Frame) (frames : List Frame) → IsList frame
-    → is_footnote_in_another (InContainer c) (frame ∷ frames) ≡ false
-    → (loosened_in true (InContainer c ∷ frame ∷ frames) ≡ InContainer c ∷ loose_frame_of frame ∷ frames)
-    × (is_footnote_in_another (loose_frame_of frame) frames ≡ false)
-    × (is_footnote_in_another (InContainer c) (loose_frame_of frame ∷ frames) ≡ false)
-loosened_frames c (InContainer b) frames list h = absurd list
-loosened_frames c (InList byte loose) frames list h = (refl, refl, h)
-loosened_frames c (InDefinitions loose) frames list h = (refl, refl, h)
 
 -- a block opens after blank lines
 module _ (d : Document) (defined : Tables) (f : Forest Item) (p : Place) (lines : List Place) (opening : Opening)
@@ -193,99 +256,78 @@ module _ (d : Document) (defined : Tables) (f : Forest Item) (p : Place) (lines 
   abbrev old : ReadyAt d defined f true (Inside p) lines
   old = left.0.ready.0
 
-  noted_at : CompletesAt d defined (tail (closed_in f) false) (loosened_in true old.frames) f.nodes (map (λ (i : TreeIndex). i.0) f.spine) (Inside p) lines
-  noted_at =
-      completes-note d (open_nodes defined old.frames f.nodes (map (λ (i : TreeIndex). i.0) f.spine)) (tail (closed_in f) true) (record {
-        place = p;
-        lines = lines;
-        opening = opening;
-        stays = subst (λ z. StaysAt d z p) (open_path d.options f.nodes f.spine old.frames old.are_open) begins.stays;
-        opens = subst (λ z. Opens d z p lines opening) (open_level d.options f old.frames true old.are_open) left.1;
-      }) left.0.ready.1 begins.block begins.other old.completes
+  -- the nodes are completed after the blank lines are noted
+  noted_at : (s : List TreeIndex) (frames : List Frame) → f.spine ≡ s → loosened_in true old.frames ≡ frames
+      → CompletesAt d defined (tail (closed_in f) false) frames f.nodes (map (λ (i : TreeIndex). i.0) s) (Inside p) lines
+  noted_at s frames spine same = rw (← spine, ← same)
+      (completes-note d (open_nodes defined old.frames f.nodes (map (λ (i : TreeIndex). i.0) f.spine)) (tail (closed_in f) true)
+      (at_level d (path_of d.options f) _ _ p lines opening (open_level d.options f old.frames true old.are_open)
+      (open_path d.options f.nodes f.spine old.frames old.are_open) begins.stays left.1) left.0.ready.1 begins.block begins.other old.completes)
 
   -- if the innermost open node is not in a list
-  noted_still : (frames : List Frame) → old.frames ≡ frames → loosened_in true frames ≡ frames → PlainAfter d defined f false (Inside p) lines (closed_in f)
-  noted_still frames same still =
-      let now : ReadyAt d defined f false (Inside p) lines =
-      ready_as d defined f false (Inside p) lines old.frames (closed_in f) refl old.are_open old.silent
-      (subst (λ z. CompletesAt d defined (tail (closed_in f) false) z f.nodes (map (λ (i : TreeIndex). i.0) f.spine) (Inside p) lines)
-      (subst (λ z. loosened_in true z ≡ z) (sym same) still) noted_at) in
-      record { ready = now; plain = left.0.ready.1; last = refl }
+  noted_still : loosened_in true old.frames ≡ old.frames → PlainAfter d defined f false (Inside p) lines (closed_in f)
+  noted_still still = record {
+    ready = ready_as d defined f false (Inside p) lines old.frames (closed_in f) refl old.are_open old.silent (noted_at f.spine old.frames refl still);
+    plain = left.0.ready.1;
+    last = refl;
+  }
 
-  -- the frames of the tree's own open nodes
-  opened_here : (s : List TreeIndex) (frames : List Frame) → f.spine ≡ s → old.frames ≡ frames → AreOpen d.options f.nodes s frames
-  opened_here s frames spine same =
-      subst (λ z. AreOpen d.options f.nodes z frames) spine (subst (λ z. AreOpen d.options f.nodes f.spine z) same old.are_open)
-
-  -- if it is in a list
-  noted_loose : (ix jx : TreeIndex) (s : List TreeIndex) (c : Container) (frame : Frame) (frames : List Frame) (b : ItemBody)
-      → f.spine ≡ ix ∷ jx ∷ s → old.frames ≡ InContainer c ∷ frame ∷ frames → body_at f.nodes jx.0 ≡ Some b
-      → (flags : ListFlags) × (list_flags_of b ≡ Some flags) → IsList frame
+  -- if it is in a list, which becomes loose; no footnote definition is directly in another one
+  noted_loose : (ix jx : TreeIndex) (s : List TreeIndex) (c : Container) (frame : Frame) (frames : List Frame)
+      → f.spine ≡ ix ∷ jx ∷ s → old.frames ≡ InContainer c ∷ frame ∷ frames
+      → AreOpen d.options f.nodes (ix ∷ jx ∷ s) (InContainer c ∷ frame ∷ frames) → IsList frame
+      → loosened_in true (InContainer c ∷ frame ∷ frames) ≡ InContainer c ∷ loose_frame_of frame ∷ frames
+      → (is_footnote_in_another (loose_frame_of frame) frames ≡ false) × (is_footnote_in_another (InContainer c) (loose_frame_of frame ∷ frames) ≡ false)
       → PlainAfter d defined (loosened_at f jx) false (Inside p) lines (closed_in f)
-  noted_loose ix jx s c frame frames b spine frames_are is (flags, listed) list =
-      let o = opened_here (ix ∷ jx ∷ s) (InContainer c ∷ frame ∷ frames) spine frames_are in
-      let kept = loosened_frames c frame frames list o.2 in
-      let k = subst (λ z. CompletesAt d defined (tail (closed_in f) false) z f.nodes (ix.0 ∷ jx.0 ∷ map (λ (i : TreeIndex). i.0) s) (Inside p) lines) kept.0
-      (subst (λ z. CompletesAt d defined (tail (closed_in f) false) (loosened_in true z) f.nodes (ix.0 ∷ jx.0 ∷ map (λ (i : TreeIndex). i.0) s) (Inside p)
-      lines) frames_are
-      (subst (λ z. CompletesAt d defined (tail (closed_in f) false) (loosened_in true old.frames) f.nodes (map (λ (i : TreeIndex). i.0) z) (Inside p)
-      lines) spine noted_at)) in
+  unfolding reflagged
+  noted_loose ix jx s c frame frames spine same o list now apart =
+      let l = list_body d.options (body_at f.nodes jx.0) frame list (has_frame d.options _ frame o.1.0) in
+      let b : ItemBody = l.0 in
+      let k = noted_at (ix ∷ jx ∷ s) (InContainer c ∷ loose_frame_of frame ∷ frames) spine (ap (loosened_in true) same ∙ now) in
       let g : Forest Item = loosened_at f jx in
-      let now : Forest Item = with_body_at f jx (flagged true b) in
-      let as_now : g ≡ now = ap (loosened_by f jx) is ∙ loosened_is f jx b flags listed in
-      let change : Item → Item = λ x. record { start = x.start; «end» = x.«end»; body = flagged true b } in
-      let nodes : g.nodes ≡ reflagged f.nodes jx.0 true = loose_is f jx b flags is listed in
-      let same : g.spine ≡ ix ∷ jx ∷ s = loosened_spine f jx (body_at f.nodes jx.0) ∙ spine in
-      let below : jx.0 < ix.0 = k.below.1.0 in
-      let top_is : body_at g.nodes ix.0 ≡ body_at f.nodes ix.0 =
-      ap (λ (z : Forest Item). body_at z.nodes ix.0) as_now ∙ body-later f.nodes jx.0 ix.0 change below in
-      let first : frame_at d.options g.nodes ix.0 ≡ Some (InContainer c) = ap (option_and_then (frame_of d.options)) top_is ∙ o.0 in
-      let outer : AreOpen d.options g.nodes s frames =
-      subst (λ (z : Forest Item). AreOpen d.options z.nodes s frames) (sym as_now)
-      (open_below d.options f.nodes now.nodes jx.0 s frames (λ i h. ap (option_and_then (frame_of d.options)) (body-other f.nodes jx.0 i change h))
-      k.below.1.1 o.1.1) in
-      let opened : AreOpen d.options g.nodes (ix ∷ jx ∷ s) (InContainer c ∷ loose_frame_of frame ∷ frames) =
-      (first, (loose_frame d.options f jx b flags frame is listed o.1.0, outer, kept.1), kept.2) in
+      let nodes : g.nodes ≡ reflagged f.nodes jx.0 true = loose_is f jx b l.1 l.2 l.3 in
+      let current : g.current ≡ f.current =
+      ap (λ z. (loosened_by f jx z).current) l.2 ∙ ap (λ (z : Forest Item). z.current) (loosened_is f jx b l.1 l.3) in
       let old_top : is_definition_list (top_body f) ≡ false = ap (λ z. is_definition_list (top_in f.nodes z)) spine
       ∙ top_no_definitions d.options (body_at f.nodes ix.0) (InContainer c ∷ frame ∷ frames) (has_frame d.options _ (InContainer c) o.0) tt in
-      let done = completes-reflag d (open_nodes defined frames f.nodes (map (λ (i : TreeIndex). i.0) s)) (tail (closed_in f) false) (loose_frame_of frame) c
-      ix.0 jx.0 (Inside p) lines (list_around frame c frames list k.shape.0) (left.0.before ix jx s spine) k in
-      plain_after d defined g false (Inside p) lines (closed_in f) g.nodes (ix ∷ jx ∷ s) (InContainer c ∷ loose_frame_of frame ∷ frames) refl same opened tt
-      (λ new_top. closed_same f g old_top new_top (ap (λ (z : Forest Item). z.current) as_now)
-      (λ i. ap (λ (z : Forest Item). option_map_or (closed_elsewhere i) (body_at z.nodes i) OtherClosed) as_now
-      ∙ closed_renamed f.nodes jx.0 b (flagged true b) (list_no_paragraph b flags listed) (flagged_no_paragraph b flags listed) is i i))
-      (subst (λ z. SilentClosed z (closed_in f)) (sym nodes) (silent_reflagged f.nodes jx.0 true (closed_in f) old.silent))
-      (subst (λ z. CompletesAt d defined (tail (closed_in f) false) (InContainer c ∷ loose_frame_of frame ∷ frames) z
-      (ix.0 ∷ jx.0 ∷ map (λ (i : TreeIndex). i.0) s) (Inside p) lines) (sym nodes) done)
+      plain_after d defined g false (Inside p) lines (closed_in f) (reflagged f.nodes jx.0 true) (ix ∷ jx ∷ s)
+      (InContainer c ∷ loose_frame_of frame ∷ frames) nodes (loosened_spine f jx (body_at f.nodes jx.0) ∙ spine) (
+        ap (option_and_then (frame_of d.options)) (body-later f.nodes jx.0 ix.0 _ k.below.1.0) ∙ o.0,
+        (
+          ap (λ z. frame_at d.options z jx.0) (sym nodes) ∙ loose_frame d.options f jx b l.1 frame l.2 l.3 o.1.0,
+          open_below d.options f.nodes _ jx.0 s frames (λ i h. ap (option_and_then (frame_of d.options)) (body-other f.nodes jx.0 i _ h)) k.below.1.1
+              o.1.1,
+          apart.0,
+        ),
+        apart.1,
+      ) tt
+      (λ new_top. closed_same f g old_top new_top current (λ i. ap (λ z. option_map_or (closed_elsewhere i) (body_at z i) OtherClosed) nodes
+      ∙ closed_renamed f.nodes jx.0 b _ (list_no_paragraph b l.1 l.3)
+      (λ x h. ap (λ z. is_paragraph_body (flagged true z)) h ∙ flagged_no_paragraph b l.1 l.3) l.2 i i))
+      (silent_reflagged f.nodes jx.0 true (closed_in f) old.silent)
+      (completes-reflag d (open_nodes defined frames f.nodes (map (λ (i : TreeIndex). i.0) s)) (tail (closed_in f) false) (loose_frame_of frame) c
+      ix.0 jx.0 (Inside p) lines (list_around frame c frames list k.shape.0) (left.0.before ix jx s spine) k)
 
-  noted_by : (s : List TreeIndex) (frames : List Frame) → f.spine ≡ s → old.frames ≡ frames
+  noted_by : (s : List TreeIndex) (frames : List Frame) → f.spine ≡ s → old.frames ≡ frames → AreOpen d.options f.nodes s frames → IsPlain frames
       → PlainAfter d defined (gap_tree f s) false (Inside p) lines (closed_in f)
-  noted_by [] [] spine same = noted_still [] same refl
-  noted_by [] (frame ∷ frames) spine same = absurd (opened_here [] (frame ∷ frames) spine same)
-  noted_by (ix ∷ s) [] spine same = absurd (opened_here (ix ∷ s) [] spine same)
-  noted_by (ix ∷ s) (InList byte loose ∷ frames) spine same = absurd (subst IsPlain same left.0.ready.1)
-  noted_by (ix ∷ s) (InDefinitions loose ∷ frames) spine same = absurd (subst IsPlain same left.0.ready.1)
-  noted_by (ix ∷ []) (InContainer c ∷ []) spine same = noted_still (InContainer c ∷ []) same refl
-  noted_by (ix ∷ []) (InContainer c ∷ frame ∷ frames) spine same = absurd (opened_here (ix ∷ []) (InContainer c ∷ frame ∷ frames) spine same).1
-  noted_by (ix ∷ jx ∷ s) (InContainer c ∷ []) spine same = absurd (opened_here (ix ∷ jx ∷ s) (InContainer c ∷ []) spine same).1
-  noted_by (ix ∷ jx ∷ s) (InContainer c ∷ InContainer b ∷ frames) spine same =
-      let here : List Frame = InContainer c ∷ InContainer b ∷ frames in
-      let o = opened_here (ix ∷ jx ∷ s) here spine same in
-      let unchanged : loosened_at f jx ≡ f = no_list_at d.options (body_at f.nodes jx.0) b (has_frame d.options _ (InContainer b) o.1.0) f jx in
-      subst (λ g. PlainAfter d defined g false (Inside p) lines (closed_in f)) (sym unchanged) (noted_still here same refl)
-  noted_by (ix ∷ jx ∷ s) (InContainer c ∷ InList byte loose ∷ frames) spine same =
-      let o = opened_here (ix ∷ jx ∷ s) (InContainer c ∷ InList byte loose ∷ frames) spine same in
-      let b = has_frame d.options (body_at f.nodes jx.0) (InList byte loose) o.1.0 in
-      noted_loose ix jx s c (InList byte loose) frames (ListBody (list_flags (not loose)) byte b.0) spine same b.1
-      (list_flags (not loose), refl) tt
-  noted_by (ix ∷ jx ∷ s) (InContainer c ∷ InDefinitions loose ∷ frames) spine same =
-      let o = opened_here (ix ∷ jx ∷ s) (InContainer c ∷ InDefinitions loose ∷ frames) spine same in
-      let b = has_frame d.options (body_at f.nodes jx.0) (InDefinitions loose) o.1.0 in
-      noted_loose ix jx s c (InDefinitions loose) frames (DefinitionList (list_flags (not loose))) spine same b (list_flags (not loose), refl) tt
+  noted_by [] [] spine same o plain = noted_still (rw same refl)
+  noted_by (ix ∷ []) (InContainer c ∷ []) spine same o plain = noted_still (rw same refl)
+  noted_by (ix ∷ jx ∷ s) (InContainer c ∷ InContainer b ∷ frames) spine same o plain =
+      subst (λ g. PlainAfter d defined g false (Inside p) lines (closed_in f))
+      (sym (no_list_at d.options (body_at f.nodes jx.0) b (has_frame d.options _ (InContainer b) o.1.0) f jx)) (noted_still (rw same refl))
+  noted_by (ix ∷ jx ∷ s) (InContainer c ∷ InList byte loose ∷ frames) spine same o plain =
+      noted_loose ix jx s c (InList byte loose) frames spine same o tt refl (refl, o.2)
+  noted_by (ix ∷ jx ∷ s) (InContainer c ∷ InDefinitions loose ∷ frames) spine same o plain =
+      noted_loose ix jx s c (InDefinitions loose) frames spine same o tt refl (refl, o.2)
+  noted_by [] (frame ∷ frames) spine same o plain = absurd o
+  noted_by (ix ∷ s) [] spine same o plain = absurd o
+  noted_by (ix ∷ []) (InContainer c ∷ frame ∷ frames) spine same o plain = absurd o.1
+  noted_by (ix ∷ jx ∷ s) (InContainer c ∷ []) spine same o plain = absurd o.1
+  noted_by s frames spine same o plain = absurd plain
 
   -- a blank line before a block is noted
-  pub noted_run : PlainAfter d defined (gap_tree f f.spine) false (Inside p) lines (closed_in f)
-  noted_run = noted_by f.spine old.frames refl refl
+  noted_run : PlainAfter d defined (gap_tree f f.spine) false (Inside p) lines (closed_in f)
+  noted_run = noted_by f.spine old.frames refl refl old.are_open left.0.ready.1
 
 gap_path : (options : Options) (f : Forest Item) (spine : List TreeIndex) → path_of options (gap_tree f spine) ≡ path_of options f
 gap_path options f [] = refl
@@ -324,8 +366,7 @@ noted_as d defined r p lines opening true is none opens left =
       blank = refl;
       none = none;
     }
-noted_as d defined r p lines opening false is none opens left =
-    record { ready = left.0.ready; opens = left.1; path = refl; blank = is; none = none }
+noted_as d defined r p lines opening false is none opens left = grind arith
 
 -- a new block ends an innermost list, and a blank line before it is noted
 pub ready_finished : (d : Document) (defined : Tables) (r : PassState) (p : Place) (lines : List Place) (at : ℕ) (opening : Opening)
@@ -344,11 +385,6 @@ ready_finished d defined r p lines at opening may begins opens away =
     subst (λ q. Finished d defined r (gap_marked (list_closed at q)) p lines opening) (sym same)
     (record { ready = done.ready; opens = done.opens; path = done.path ∙ path; blank = done.blank; none = done.none })
 
-path_noted : (options : Options) (t : Bool) (r : PassState)
-    → path_of options (if t then record r { tree = gap_tree r.tree r.tree.spine; blank = false } else r).tree ≡ path_of options r.tree
-path_noted options true r = gap_path options r.tree r.tree.spine
-path_noted options false r = refl
-
 -- a new block ends no container
 pub path_finished : (options : Options) (at : ℕ) (r : PassState) → r.begin_list_item ≡ None → path_of options (list_finished at r).tree ≡ path_of options r.tree
 unfolding list_finished empty_item_closed
@@ -356,4 +392,5 @@ path_finished options at r none =
     let same : empty_item_closed_by r r.begin_list_item ≡ r = ap (empty_item_closed_by r) none in
     let l : PassState = list_closed at r in
     subst (λ q. path_of options (gap_marked (list_closed at q)).tree ≡ path_of options r.tree) (sym same)
-    (path_noted options l.blank l ∙ (kept_left at r).path options)
+    (cond_both l.blank _ l (λ q. path_of options q.tree ≡ path_of options l.tree) (λ noted. gap_path options l.tree l.tree.spine) (λ still. refl)
+    ∙ (kept_left at r).path options)

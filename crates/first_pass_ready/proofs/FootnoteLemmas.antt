@@ -1,12 +1,11 @@
 -- A footnote definition is opened at a place in a line: an innermost list ends there, and then another footnote
 -- definition (this project).
-use Rattle.std.proofs.Common.{arith, ◌≡◌, ℕ, Bool, true, false, ◌&&◌, List, ◌∷◌, map, Option, Some, None, is_some, MatchOption, refl, sym, ap, subst, ◌∙◌}
-use Rattle.std.proofs.Common.{if◌then◌else◌, option_and_then}
+use Rattle.std.proofs.Common.{arith, ◌≡◌, ℕ, Bool, true, false, ◌&&◌, List, ◌∷◌, map, Option, Some, None, is_some, refl, sym, ap, subst, ◌∙◌, if◌then◌else◌}
+use Rattle.std.proofs.Common.{option_and_then}
 use Rattle.first_pass_grammar.proofs.Common.{Item, ItemBody, DefinitionList, CowIndex, Options, TreeIndex, Forest, IsForest, Place, offset, Before}
-use Rattle.first_pass_grammar.proofs.Common.{FootnoteMarker, footnote_columns, in_footnote, footnote_head_at, label_bytes, NamesLabel, place_past}
-use Rattle.first_pass_grammar.proofs.Common.{past_head, unindented, lines_beyond, gfm_footnotes, Document, around, start_at, Inside, Opening, Level, level}
-use Rattle.first_pass_grammar.proofs.Common.{may_define, OpensFootnote, OpensBy, Opens, Tables, with_footnote_label, node_of, Closed, OtherClosed}
-use Rattle.first_pass_grammar.proofs.Common.{DefinitionClosed, Frame, containers_of, IsPlain}
+use Rattle.first_pass_grammar.proofs.Common.{FootnoteMarker, footnote_columns, in_footnote, footnote_head_at, label_bytes, NamesLabel, place_past, past_head}
+use Rattle.first_pass_grammar.proofs.Common.{unindented, lines_beyond, gfm_footnotes, Document, around, Inside, Opening, Level, level, OpensFootnote, Opens}
+use Rattle.first_pass_grammar.proofs.Common.{Tables, with_footnote_label, node_of, Closed, OtherClosed, DefinitionClosed, Frame, containers_of, IsPlain}
 use Rattle.first_pass_items.specs.declared.item.ItemBody.TheVariants.{List as ListBody, FootnoteDefinition as FootnoteDefinitionBody}
 use Rattle.first_pass_grammar.specs.declared.kind.Container.{Container}
 use Rattle.first_pass_grammar.specs.declared.kind.Container.TheVariants.{FootnoteDefinition}
@@ -18,17 +17,17 @@ use Rattle.first_pass_completion.proofs.States.{open_nodes}
 use Rattle.first_pass_grammar.proofs.Sequences.FootnoteHeads.{head_around}
 use Rattle.first_pass_open.specs.OpenBlock.{closed_by}
 use Rattle.first_pass_open.specs.Path.{container_of, container_at, with_container, path_in, path_of}
-use Rattle.first_pass_lists.specs.Closing.{top_body, is_footnote, popped, empty_item_closed_by, empty_item_closed, list_closed}
-use Rattle.first_pass_lists.specs.Closing.{footnote_left, gap_marked, begun, footnote_begun}
+use Rattle.first_pass_lists.specs.Closing.{top_body, is_footnote, popped, empty_item_closed_by, empty_item_closed, list_closed, footnote_left, gap_marked}
+use Rattle.first_pass_lists.specs.Closing.{begun, footnote_begun}
 use Rattle.first_pass_lists.specs.declared.state.PassState.{PassState}
 use Rattle.first_pass_ready.specs.State.{closed_in, ReadyAt}
 use Rattle.first_pass_ready.proofs.ClosedIn.{IsTop, top_of, level_of, open_level, closed_popped}
 use Rattle.first_pass_ready.proofs.OpenLemmas.{open_path}
-use Rattle.first_pass_ready.proofs.PopLemmas.{list_popped, note_ends, shut_list, end_note}
-use Rattle.first_pass_ready.proofs.TitlePops.{shut_title}
+use Rattle.first_pass_ready.proofs.PopLemmas.{list_popped, note_ends, close_list, end_note}
+use Rattle.first_pass_ready.proofs.TitlePops.{close_title}
 use Rattle.first_pass_ready.proofs.StateLemmas.{list_cases, kept_left, popped_as, popped_kept, popped_spine}
 use Rattle.first_pass_ready.proofs.OldFootnotes.{footnote_top}
-use Rattle.first_pass_ready.proofs.FinishLemmas.{ReadyPlain, EndsListAt, IsLeft, LeftPlain, left_still, left_list, left_title, ready_left, OpensOther, noted_as}
+use Rattle.first_pass_ready.proofs.FinishLemmas.{ReadyPlain, EndsListAt, IsLeft, left_still, left_list, left_title, ready_left, OpensOther, noted_as}
 use Rattle.first_pass_ready.proofs.BegunLemmas.{with_open, begun_ready}
 
 -- the opening of a footnote definition ends any list at its start
@@ -41,9 +40,7 @@ note_away b closed d p lines size index label = tt
 -- a footnote definition opens at its head
 opens_note : (d : Document) (l : Level) (p : Place) (lines : List Place) (head : ℕ × List ℕ) (opening : Opening)
     → footnote_head_at (around d l.path) p ≡ Some head → OpensFootnote d p lines head opening → Opens d l p lines opening
-opens_note d l p lines head opening is opens =
-    subst (λ z. MatchOption z (OpensBy d l.path p lines (start_at d.options (may_define d l) p) opening) (λ head. OpensFootnote d p lines head opening))
-    (sym is) opens
+opens_note d l p lines head opening is opens = rw is opens
 
 note_framed : (options : Options) (b : Option ItemBody) (n : ℕ) → option_and_then (container_of options) b ≡ Some (FootnoteDefinition n)
     → is_footnote b ≡ true
@@ -70,8 +67,8 @@ module _ (d : Document) (defined : Tables) (r : PassState) (p : Place) (lines : 
       (ap (λ (t : Bool). t && is_some (footnote_head_at (around d path) p)) inside ∙ ap (λ z. is_some z) is_head) in
       list_cases at r (λ q. IsLeft d defined q.tree r.blank p lines) (λ still. left_still d defined r p lines forest still ready)
       (λ l. left_list d defined r p lines forest (list_popped r.tree at l.list l.outer l.flags)
-      (shut_list d defined r.tree r.blank lines at forest l (Inside p) ends ready))
-      (λ l. left_title d defined r p lines forest l (shut_title d defined r.tree r.blank lines forest l (Inside p) at ends ready))
+      (close_list d defined r.tree r.blank lines at forest l (Inside p) ends ready))
+      (λ l. left_title d defined r p lines forest l (close_title d defined r.tree r.blank lines forest l (Inside p) at ends ready))
   list_ended false index named out ready =
       let opening : Opening = footnote_opening d p lines head.0 (FootnoteMarker (footnote_columns d.options) index head.1) in
       let begins : OpensOther d (path_of d.options r.tree) p opening =
@@ -81,17 +78,17 @@ module _ (d : Document) (defined : Tables) (r : PassState) (p : Place) (lines : 
       (note_away (top_body r.tree) (closed_in r.tree) d p lines head.0 index head.1) ready).0
 
 -- the state after the innermost open nodes end where another footnote definition begins
-record IsOutside (d : Document) (defined : Tables) (old new : PassState) (p : Place) (lines : List Place) : Type 0 where
-  left : IsLeft d defined new.tree old.blank p lines
+record IsOutside (d : Document) (defined : Tables) (old new : PassState) (run : Bool) (p : Place) (lines : List Place) : Type 0 where
+  left : IsLeft d defined new.tree run p lines
   out : in_footnote (path_of d.options new.tree) ≡ false
   blank : new.blank ≡ old.blank
   none : new.begin_list_item ≡ old.begin_list_item
   same : footnote_head_at (around d (path_of d.options new.tree)) p ≡ footnote_head_at (around d (path_of d.options old.tree)) p
 
-footnote_closed : (d : Document) (defined : Tables) (r : PassState) (p : Place) (lines : List Place) (head : ℕ × List ℕ) (t : Bool)
-    → footnote_head_at (around d (path_of d.options r.tree)) p ≡ Some head → is_footnote (top_body r.tree) ≡ t → IsLeft d defined r.tree r.blank p lines
-    → IsOutside d defined r (if t then popped (offset (unindented p)) r else r) p lines
-footnote_closed d defined r p lines head false is_head top left =
+footnote_closed : (d : Document) (defined : Tables) (r : PassState) (run : Bool) (p : Place) (lines : List Place) (head : ℕ × List ℕ) (t : Bool)
+    → footnote_head_at (around d (path_of d.options r.tree)) p ≡ Some head → is_footnote (top_body r.tree) ≡ t → IsLeft d defined r.tree run p lines
+    → IsOutside d defined r (if t then popped (offset (unindented p)) r else r) run p lines
+footnote_closed d defined r run p lines head false is_head top left =
     let ready = left.ready.0 in
     record {
       left = left;
@@ -101,7 +98,7 @@ footnote_closed d defined r p lines head false is_head top left =
       none = refl;
       same = refl;
     }
-footnote_closed d defined r p lines head true is_head top left =
+footnote_closed d defined r run p lines head true is_head top left =
     let e : ℕ = offset (unindented p) in
     let t = footnote_top r.tree.nodes r.tree.spine top in
     let ix : TreeIndex = t.0 in
@@ -115,14 +112,14 @@ footnote_closed d defined r p lines head true is_head top left =
     let outer : path_of d.options (popped e r).tree ≡ path =
     (popped_kept e r ix rest t.3).paths d.options (popped e r).tree.spine ∙ ap (path_in d.options r.tree.nodes) (popped_spine e r ix rest t.3) in
     let now : popped e r ≡ record r { tree = g } = popped_as e r ix rest (FootnoteDefinitionBody t.2) t.3 t.4 refl in
-    let q = end_note d defined r.tree r.blank p lines ix rest head columns t.3 here is_head left.ready.0 in
+    let q = end_note d defined r.tree run p lines ix rest head columns t.3 here is_head left.ready.0 in
     let frames : List Frame = q.ready.frames in
     let last : closed_in g ≡ OtherClosed =
     closed_popped d.options r.tree e ix rest (FootnoteDefinition columns) frames here q.ready.are_open q.stands in
-    let done : IsLeft d defined g r.blank p lines =
+    let done : IsLeft d defined g run p lines =
     record { ready = (q.ready, q.stands); before = λ a o s e. subst (IsBefore o.0) (sym last) tt } in
     record {
-      left = subst (λ (q : PassState). IsLeft d defined q.tree r.blank p lines) (sym now) done;
+      left = subst (λ (q : PassState). IsLeft d defined q.tree run p lines) (sym now) done;
       out = ap (λ (q : PassState). in_footnote (path_of d.options q.tree)) now
           ∙ ap in_footnote (open_path d.options g.nodes g.spine frames q.ready.are_open) ∙ q.apart;
       blank = ap (λ (q : PassState). q.blank) now;
@@ -185,20 +182,16 @@ module _ (d : Document) (defined : Tables) (r : PassState) (p : Place) (lines : 
       let path : List Container = path_of d.options r.tree in
       let l : PassState = list_closed start r in
       let kept = kept_left start r in
-      let path_l : path_of d.options l.tree ≡ path = kept.path d.options in
-      let first : IsLeft d defined l.tree l.blank p lines =
-      subst (λ t. IsLeft d defined l.tree t p lines) (sym kept.blank)
-      (list_ended d defined r p lines head forest is_head (in_footnote path) index named refl ready) in
-      let head_l : footnote_head_at (around d (path_of d.options l.tree)) p ≡ Some head = ap (λ z. footnote_head_at (around d z) p) path_l ∙ is_head in
+      let head_l : footnote_head_at (around d (path_of d.options l.tree)) p ≡ Some head =
+      ap (λ z. footnote_head_at (around d z) p) (kept.path d.options) ∙ is_head in
       let q : PassState = footnote_left start l in
-      let o = footnote_closed d defined l p lines head (is_footnote (top_body l.tree)) head_l refl first in
+      let o = footnote_closed d defined l r.blank p lines head (is_footnote (top_body l.tree)) head_l refl
+      (list_ended d defined r p lines head forest is_head (in_footnote path) index named refl ready) in
       let head_q : footnote_head_at (around d (path_of d.options q.tree)) p ≡ Some head = o.same ∙ head_l in
-      let left : IsLeft d defined q.tree q.blank p lines = subst (λ t. IsLeft d defined q.tree t p lines) (sym o.blank) o.left in
-      let now : LeftPlain d defined q.tree q.blank p lines opening =
+      let left : IsLeft d defined q.tree q.blank p lines = subst (λ t. IsLeft d defined q.tree t p lines) (sym (o.blank ∙ kept.blank)) o.left in
+      let done = noted_as d defined q p lines opening q.blank refl (o.none ∙ kept.none none)
+      (record { stays = stays_outside d (path_of d.options q.tree) p o.out; block = tt; other = refl })
       (left, opens_in (path_of d.options q.tree) (level_of d.options q.tree q.blank).before head_q) in
-      let begins_it : OpensOther d (path_of d.options q.tree) p opening =
-      record { stays = stays_outside d (path_of d.options q.tree) p o.out; block = tt; other = refl } in
-      let done = noted_as d defined q p lines opening q.blank refl (o.none ∙ kept.none none) begins_it now in
       let g : PassState = gap_marked q in
       let out : in_footnote (path_of d.options g.tree) ≡ false = ap in_footnote done.path ∙ o.out in
       let begins : footnote_head_at (around d (path_of d.options g.tree)) p ≡ Some head = ap (λ z. footnote_head_at (around d z) p) done.path ∙ head_q in

@@ -7,12 +7,9 @@ pub mod FinishLemmas
 pub mod FootnoteLemmas
 pub mod ItemBodies
 pub mod LeftBlocks
-pub mod Levels
 pub mod LineLemmas
-pub mod ListLemmas
 pub mod OldFootnotes
 pub mod OpenLemmas
 pub mod PopLemmas
 pub mod StateLemmas
-pub mod TitleMoved
 pub mod TitlePops

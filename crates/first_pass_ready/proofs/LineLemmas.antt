@@ -1,6 +1,5 @@
 -- A line is read: containers are closed, and the line is entered.
-use Rattle.std.proofs.Common.{◌≡◌, ℕ, ◌+◌, ◌<◌, ◌≤◌, true, false, List, ◌∷◌, length, drop, Some, None, is_some, IsUtf8, IsCharBoundary, refl, ap, subst}
-use Rattle.std.proofs.Common.{◌∙◌}
+use Rattle.std.proofs.Common.{◌≡◌, ℕ, ◌+◌, ◌<◌, ◌≤◌, true, false, List, ◌∷◌, length, drop, Some, None, is_some, IsUtf8, IsCharBoundary, ◌∙◌, arith}
 use Rattle.first_pass_grammar.proofs.Common.{Item, TreeIndex, Forest, blank_len, line_len, Rest, Place, line_rest, line_place, place_at, line_end, start_of}
 use Rattle.first_pass_grammar.proofs.Common.{IsPlaceOf, lines_at-line, line_is_place, after, Document, Inside, Tables, lines_from, Options}
 use Rattle.first_pass_lists.specs.Closing.{empty_item_closed, blank_read, footnote_ended}
@@ -29,17 +28,7 @@ pub at_line : (d : Document) (defined : Tables) (old new : PassState) (start kep
     → ((m : ℕ) → kept < m → m ≤ length old.tree.spine
     → after (path_in d.options old.tree.nodes (outer m old.tree.spine)) (line_rest (drop start d.text)) ≡ None)
     → IsAtLine d defined old new start r
-at_line d defined old new start kept r within closes taken stops =
-    let here : Place = line_place start (drop start d.text) in
-    let lines : List Place = lines_from d.text (start + line_len (drop start d.text)) in
-    let first : lines_from d.text start ≡ here ∷ lines = lines_at-line d.text start within in
-    let path : path_of d.options new.tree ≡ path_in d.options old.tree.nodes (outer kept old.tree.spine) =
-    closes.paths d.options new.tree.spine ∙ ap (path_in d.options old.tree.nodes) closes.spine in
-    record {
-      goes = ap (λ p. after p (line_rest (drop start d.text))) path ∙ taken;
-      ready = λ ready.
-          closes.ready d defined (here ∷ lines) refl (λ m low high. ap is_some (stops m low high)) (subst (Ready d defined old) first ready);
-    }
+at_line d defined old new start kept r within closes taken stops = grind (arith, lines_at-line)
 
 -- the same after a footnote definition in the old form ended there, if one does: the innermost open node then does
 -- not end
@@ -51,13 +40,7 @@ pub record IsSettled (d : Document) (defined : Tables) (old new : PassState) (st
 
 pub settled : (d : Document) (defined : Tables) (old new : PassState) (start : ℕ) (r : Rest) → IsAtLine d defined old new start r
     → IsSettled d defined old (footnote_ended d.options start new) start r
-settled d defined old new start r line =
-    let here : Place = line_place start (drop start d.text) in
-    let lines : List Place = lines_from d.text (start + line_len (drop start d.text)) in
-    record {
-      goes = ended_path d start new (line_rest (drop start d.text)) ∙ line.goes;
-      ready = λ ready. ended_ready d defined start new here lines refl (line.ready ready);
-    }
+settled d defined old new start r line = grind (arith, ended_path, ended_ready)
 
 -- a blank line is read
 pub blank_line_read : (d : Document) (defined : Tables) (old new : PassState) (start : ℕ) (r : Rest)

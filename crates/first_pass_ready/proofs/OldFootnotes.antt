@@ -1,10 +1,9 @@
 -- A footnote definition in the old form ends at a line, after a counting blank line.
-use Rattle.std.proofs.Common.{arith, ◌≡◌, ◌⊎◌, inl, inr, ℕ, ◌==◌, Bool, true, false, not, ◌&&◌, List, [], ◌∷◌, Option, Some, None, refl, sym, ap, subst}
-use Rattle.std.proofs.Common.{◌∙◌, if◌then◌else◌, option_and_then}
+use Rattle.std.proofs.Common.{arith, ◌≡◌, ◌⊎◌, inl, inr, ℕ, ◌==◌, Bool, true, false, not, ◌&&◌, List, [], ◌∷◌, Option, Some, None, refl, sym, ap, subst, ◌∙◌}
+use Rattle.std.proofs.Common.{if◌then◌else◌, option_and_then}
 use Rattle.first_pass_grammar.proofs.Common.{and-false, Item, ItemBody, DefinitionListDefinition, CowIndex, Options, gfm_footnotes, TreeIndex, Forest}
-use Rattle.first_pass_grammar.proofs.Common.{body_at, Rest, Place, line_place, Before, footnote_columns, after, in_footnote, in_old_footnote, Document}
-use Rattle.first_pass_grammar.proofs.Common.{Line, level, ends_old_footnote, Tables, no_tables, Closed, Frame, InContainer, containers_of, last_plain}
-use Rattle.first_pass_grammar.proofs.Common.{StandsIn}
+use Rattle.first_pass_grammar.proofs.Common.{body_at, Rest, Place, line_place, Before, footnote_columns, after, in_footnote, in_old_footnote, Document, Line}
+use Rattle.first_pass_grammar.proofs.Common.{level, ends_old_footnote, Tables, no_tables, Closed, Frame, InContainer, containers_of, last_plain, StandsIn}
 use Rattle.first_pass_items.specs.declared.item.ItemBody.TheVariants.{FootnoteDefinition as FootnoteDefinitionBody}
 use Rattle.first_pass_grammar.specs.declared.kind.Container.{Container}
 use Rattle.first_pass_grammar.specs.declared.kind.Container.TheVariants.{FootnoteDefinition}
@@ -14,7 +13,7 @@ use Rattle.first_pass_open.specs.OpenBlock.{closed_by}
 use Rattle.first_pass_open.specs.Path.{container_of, with_container, path_in, path_of}
 use Rattle.first_pass_lists.specs.Closing.{top_body, is_footnote, popped, footnote_ended}
 use Rattle.first_pass_lists.specs.declared.state.PassState.{PassState}
-use Rattle.first_pass_ready.specs.State.{item_columns, closed_in, AreOpen, ReadyAt, ReadyWith, Ready}
+use Rattle.first_pass_ready.specs.State.{closed_in, AreOpen, ReadyAt, ReadyWith, Ready}
 use Rattle.first_pass_ready.proofs.ClosedIn.{IsTop, top_of, top_in, HasDefined, open_defined, plain_not_open}
 use Rattle.first_pass_ready.proofs.ItemBodies.{item_container}
 use Rattle.first_pass_ready.proofs.PopLemmas.{leave_container}
@@ -91,9 +90,8 @@ ended_as options e r = ended_cases options e r (gfm_footnotes options) r.blank (
 
 -- it is a footnote definition with a label
 footnote_is : (b : Option ItemBody) → is_footnote b ≡ true → (label : CowIndex) × (b ≡ Some (FootnoteDefinitionBody label))
-footnote_is None h = cc
 footnote_is (Some (FootnoteDefinitionBody label)) h = (label, refl)
-footnote_is (Some b) h = cc
+footnote_is b h = cc
 
 pub footnote_top : (nodes : List (ℕ × Item)) (s : List TreeIndex) → is_footnote (top_in nodes s) ≡ true
     → (ix : TreeIndex) × (rest : List TreeIndex) × (label : CowIndex) × (s ≡ ix ∷ rest) × (body_at nodes ix.0 ≡ Some (FootnoteDefinitionBody label))
@@ -123,25 +121,11 @@ module _ (d : Document) (defined : Tables) (r : PassState) (line : Place) (lines
     (spine : r.tree.spine ≡ ix ∷ rest) (body : body_at r.tree.nodes ix.0 ≡ Some (FootnoteDefinitionBody label))
     (old : gfm_footnotes d.options ≡ false) (blank : r.blank ≡ true) where
   left_path : (x : Rest) → after (path_of d.options (popped e r).tree) x ≡ after (path_of d.options r.tree) x
-  left_path x =
-      let path : List Container = path_in d.options r.tree.nodes rest in
-      let columns : ℕ = footnote_columns d.options in
-      let inner : path_of d.options r.tree ≡ FootnoteDefinition columns ∷ path =
-      ap (path_in d.options r.tree.nodes) spine ∙ ap (λ o. with_container (option_and_then (container_of d.options) o) path) body in
-      let outer : path_of d.options (popped e r).tree ≡ path =
-      (popped_kept e r ix rest spine).paths d.options (popped e r).tree.spine ∙ ap (path_in d.options r.tree.nodes) (popped_spine e r ix rest spine) in
-      ap (λ z. after z x) outer ∙ sym (after_old path x)
-      ∙ ap (λ (n : ℕ). after (FootnoteDefinition n ∷ path) x) (sym (columns_none d.options old)) ∙ ap (λ z. after z x) (sym inner)
+  left_path x = grind (arith, popped_kept, popped_spine, after_old, columns_none)
 
   left_with : (o : Option ℕ) → r.begin_list_item ≡ o → line.line ≡ e → ReadyWith d defined r (line ∷ lines) o
       → Ready d defined (popped e r) (line ∷ lines) × (ends_here d.options (popped e r).tree (popped e r).blank ≡ false)
-  left_with (Some x) some e_is empty =
-      let same : empty.place ∷ empty.outer ≡ ix ∷ rest = sym empty.spine ∙ spine in
-      let at : empty.place ≡ ix = cc in
-      let item : option_and_then item_columns (body_at r.tree.nodes ix.0) ≡ Some empty.columns =
-      subst (λ (i : TreeIndex). option_and_then item_columns (body_at r.tree.nodes i.0) ≡ Some empty.columns) at empty.item in
-      let both : None ≡ Some empty.columns = ap (option_and_then item_columns) (sym body) ∙ item in
-      cc
+  left_with (Some x) some e_is empty = grind arith
   left_with None none e_is ready =
       let path : List Container = path_in d.options r.tree.nodes rest in
       let columns : ℕ = footnote_columns d.options in

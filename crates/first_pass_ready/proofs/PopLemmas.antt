@@ -1,17 +1,18 @@
 -- One open node is closed: the completions of the nodes.
 use Rattle.std.proofs.Common.{arith, ◌≡◌, ℕ, zero, suc, ◌==◌, Bool, true, false, not, List, [], ◌∷◌, length, map, Some, refl, sym, ap, subst, ◌∙◌}
-use Rattle.std.proofs.Common.{if◌then◌else◌, bit_and, option_and_then, None, Option}
-use Rattle.first_pass_grammar.proofs.Common.{length-map, Item, ItemBody, DefinitionList, ListFlags, TreeIndex, Forest, IsForest, body_at, map_from}
-use Rattle.first_pass_grammar.proofs.Common.{tightened, tight_items, Place, offset, start_of, unindented, footnote_head_at, ends_footnote, Document, around}
+use Rattle.std.proofs.Common.{if◌then◌else◌, bit_and, option_and_then, None, Option, ◌+◌, ◌<◌, nat_lt, slice_index}
+use Rattle.first_pass_grammar.proofs.Common.{length-map, Item, ItemBody, DefinitionList, ListFlags, TreeIndex, Forest, IsForest, body_at, map_from, tightened}
+use Rattle.first_pass_grammar.proofs.Common.{tight_items, Place, offset, start_of, unindented, footnote_head_at, ends_footnote, Document, around}
 use Rattle.first_pass_grammar.proofs.Common.{next_goes_on, Continues, Line, Inside, level, Lines, Ends, next_block, end_before, Opening, Opens, Tables}
 use Rattle.first_pass_grammar.proofs.Common.{list_flags, ItemsOf, DefinitionsTo, SilentClosed, flagged, ended, list_closed, Closed, OtherClosed}
 use Rattle.first_pass_grammar.proofs.Common.{DefinitionClosed, Frame, InContainer, InList, InDefinitions, closed_as, containers_of, IsPlain, StandsIn}
-use Rattle.first_pass_grammar.proofs.Common.{last_plain, body-changed, Before, is_paragraph_body, Remaining, end_of_left, only_blanks}
+use Rattle.first_pass_grammar.proofs.Common.{last_plain, body-changed, Before, is_paragraph_body, Remaining, end_of_left, only_blanks, nat_tests, Options}
+use Rattle.first_pass_grammar.proofs.Common.{IsOpenPath, depths, modify, tight_run, tight_at, node_of, depths-modify, same_Some, Level}
 use Rattle.first_pass_items.specs.declared.item.ItemBody.TheVariants.{List as ListBody}
 use Rattle.first_pass_grammar.specs.declared.kind.Container.{Container}
 use Rattle.first_pass_grammar.specs.declared.kind.Container.TheVariants.{FootnoteDefinition}
 use Rattle.first_pass_grammar.proofs.Sequences.Finishes.{CompletesAt}
-use Rattle.first_pass_completion.proofs.Extending.{tail, lvl, StaysAt}
+use Rattle.first_pass_completion.proofs.Extending.{tail, lvl, StaysAt, OpensAtPlace}
 use Rattle.first_pass_completion.proofs.Moved.{OpensBlock, opens_definition}
 use Rattle.first_pass_completion.proofs.Completions.{completes-pop, completes-pop_in_line}
 use Rattle.first_pass_completion.proofs.TitleNodes.{kept_by}
@@ -20,13 +21,13 @@ use Rattle.first_pass_completion.proofs.States.{open_nodes}
 use Rattle.first_pass_completion.proofs.Closings.{OpensAway, completes-close, completes-close_definitions}
 use Rattle.first_pass_completion.proofs.SilentNodes.{silent_as}
 use Rattle.first_pass_open.specs.OpenBlock.{closed_by}
-use Rattle.first_pass_open.specs.Path.{path_in, path_of, container_at}
+use Rattle.first_pass_open.specs.Path.{path_in, path_of, container_at, container_of}
 use Rattle.first_pass_lists.specs.Closing.{top_body, is_definition_list, possible_title}
 use Rattle.first_pass_ready.specs.State.{is_footnote_in_another, closed_in, AreOpen, ReadyAt}
-use Rattle.first_pass_ready.proofs.OpenLemmas.{open_path, open_below, frame-closed, frame-ended, HasFrame, container_frame, has_frame}
-use Rattle.first_pass_ready.proofs.ListLemmas.{list_flags_of, list_flagged, tight_closed, loose_closed, list_no_container, list_no_paragraph}
-use Rattle.first_pass_ready.proofs.ClosedIn.{level_of, open_level, closed_at_body, top_in, top_of, top_no_definitions, closed_popped}
-use Rattle.first_pass_ready.proofs.ClosedIn.{closed_definition, end_of_current, no_paragraph}
+use Rattle.first_pass_ready.proofs.OpenLemmas.{open_path, open_below, frame-closed, frame-ended, HasFrame, container_frame, has_frame, definitions_frame}
+use Rattle.first_pass_ready.proofs.ClosedIn.{level_of, open_level, closed_at_body, top_in, top_of, top_no_definitions, closed_popped, closed_definition}
+use Rattle.first_pass_ready.proofs.ClosedIn.{end_of_current, no_paragraph}
+use Rattle.first_pass_tree.proofs.BodyLemmas.{changed_alike}
 
 -- ready nodes, given the last child of the innermost open one
 abbrev pub ready_as : (d : Document) (defined : Tables) (f : Forest Item) (run : Bool) (from : Continues) (lines : List Place) (frames : List Frame)
@@ -52,32 +53,42 @@ pub record OpensOther (d : Document) (path : List Container) (p : Place) (openin
   pub block : OpensBlock opening
   pub other : opens_definition opening ≡ false
 
+-- what opens at a place in one state opens there in an equal one
+abbrev pub at_level : (d : Document) (path : List Container) (l m : Level) (p : Place) (lines : List Place) (opening : Opening) → l ≡ m → path ≡ m.path
+    → StaysAt d path p → Opens d l p lines opening → OpensAtPlace d m
+at_level d path l m p lines opening is same stays opens = record {
+  place = p;
+  lines = lines;
+  opening = opening;
+  stays = subst (λ z. StaysAt d z p) same stays;
+  opens = subst (λ z. Opens d z p lines opening) is opens;
+}
+
 -- the open nodes that remain after a container directly in them is closed
 pub record LeftOpen (d : Document) (defined : Tables) (f : Forest Item) (run : Bool) (from : Continues) (lines : List Place) (c : Container) : Type 0 where
   pub ready : ReadyAt d defined f run from lines
   pub stands : StandsIn c ready.frames
   pub apart : is_footnote_in_another (InContainer c) ready.frames ≡ false
 
--- The innermost open node has this frame: the open nodes around it.
+-- The innermost open node has this last child and this frame: the open nodes around it.
 pub record Innermost (d : Document) (defined : Tables) (f : Forest Item) (run : Bool) (from : Continues) (lines : List Place) (ix : TreeIndex)
-    (rest : List TreeIndex) (frame : Frame) : Type 0 where
+    (rest : List TreeIndex) (closed : Closed) (frame : Frame) : Type 0 where
   pub outer : List Frame
   pub are_open : AreOpen d.options f.nodes (ix ∷ rest) (frame ∷ outer)
   pub path : path_of d.options f ≡ containers_of (frame ∷ outer)
-  pub level : level_of d.options f run ≡ lvl (frame ∷ outer) (tail (closed_in f) run)
-  pub completes : CompletesAt d defined (tail (closed_in f) run) (frame ∷ outer) f.nodes (ix.0 ∷ map (λ (i : TreeIndex). i.0) rest) from lines
+  pub level : level_of d.options f run ≡ lvl (frame ∷ outer) (tail closed run)
+  pub completes : CompletesAt d defined (tail closed run) (frame ∷ outer) f.nodes (ix.0 ∷ map (λ (i : TreeIndex). i.0) rest) from lines
 
 module _ (d : Document) (defined : Tables) (f : Forest Item) (run : Bool) (from : Continues) (lines : List Place) (ix : TreeIndex) (rest : List TreeIndex)
     (spine : f.spine ≡ ix ∷ rest) where
   abbrev HasInnermost : Type 0
-  HasInnermost = (frame : Frame) × HasFrame d.options (body_at f.nodes ix.0) frame × Innermost d defined f run from lines ix rest frame
+  HasInnermost = (frame : Frame) × HasFrame d.options (body_at f.nodes ix.0) frame × Innermost d defined f run from lines ix rest (closed_in f) frame
 
   innermost_by : (frames : List Frame) → AreOpen d.options f.nodes (ix ∷ rest) frames → path_of d.options f ≡ containers_of frames
       → level_of d.options f run ≡ lvl frames (tail (closed_in f) run)
       → CompletesAt d defined (tail (closed_in f) run) frames f.nodes (ix.0 ∷ map (λ (i : TreeIndex). i.0) rest) from lines → HasInnermost
   innermost_by [] o path level k = absurd o
-  innermost_by (frame ∷ outer) o path level k =
-      (frame, has_frame d.options (body_at f.nodes ix.0) frame o.0, record { outer = outer; are_open = o; path = path; level = level; completes = k })
+  innermost_by (frame ∷ outer) o path level k = grind (arith, has_frame)
 
   -- the frame of the innermost open node of ready nodes
   pub innermost_of : ReadyAt d defined f run from lines → HasInnermost
@@ -88,15 +99,25 @@ module _ (d : Document) (defined : Tables) (f : Forest Item) (run : Bool) (from 
 
   -- it is that of a container
   pub innermost_in : (c : Container) → container_at d.options f.nodes ix ≡ Some c → ReadyAt d defined f run from lines
-      → Innermost d defined f run from lines ix rest (InContainer c)
+      → Innermost d defined f run from lines ix rest (closed_in f) (InContainer c)
   innermost_in c is ready =
       let i = innermost_of ready in
-      subst (Innermost d defined f run from lines ix rest) (container_frame d.options (body_at f.nodes ix.0) i.0 c is i.1) i.2
+      subst (Innermost d defined f run from lines ix rest (closed_in f)) (container_frame d.options (body_at f.nodes ix.0) i.0 c is i.1) i.2
+
+  -- it is that of a definition list with a known last child
+  pub innermost_definitions : (flags : ListFlags) (closed : Closed) → body_at f.nodes ix.0 ≡ Some (DefinitionList flags) → closed_in f ≡ closed
+      → ReadyAt d defined f run from lines
+      → (loose : Bool) × (flags ≡ list_flags (not loose)) × Innermost d defined f run from lines ix rest closed (InDefinitions loose)
+  innermost_definitions flags closed is last ready =
+      let i = innermost_of ready in
+      let w = definitions_frame d.options flags i.0 (subst (λ z. HasFrame d.options z i.0) is i.1) in
+      let j = subst (Innermost d defined f run from lines ix rest (closed_in f)) w.1 i.2 in
+      (w.0, w.2, subst (λ z. Innermost d defined f run from lines ix rest z (InDefinitions w.0)) last j)
 
 -- a container is closed
 module _ (d : Document) (defined : Tables) (f : Forest Item) (run : Bool) (lines : List Place) (e : ℕ) (ix : TreeIndex) (rest : List TreeIndex) (c : Container)
     (spine : f.spine ≡ ix ∷ rest) (is : container_at d.options f.nodes ix ≡ Some c) where
-  container_left : (from to : Continues) (i : Innermost d defined f run from lines ix rest (InContainer c))
+  container_left : (from to : Continues) (i : Innermost d defined f run from lines ix rest (closed_in f) (InContainer c))
       → CompletesAt d defined (tail (closed_as c e) run) i.outer (ended f.nodes ix.0 e) (map (λ (i : TreeIndex). i.0) rest) to lines
       → LeftOpen d defined (closed_by f e (ix ∷ rest)) run to lines c
   unfolding ended
@@ -139,6 +160,76 @@ module _ (d : Document) (defined : Tables) (f : Forest Item) (run : Bool) (p : P
       (completes-pop_in_line d (open_nodes defined i.outer f.nodes (map (λ (i : TreeIndex). i.0) rest)) (tail (closed_in f) run) columns ix.0 p lines head
       (subst (λ z. footnote_head_at (around d z) p ≡ Some head) i.path begins) i.completes)
 
+run_all : (depth : ℕ) (ns : List (ℕ × Item)) → ((k : ℕ) → k < length (depths ns) → depth < slice_index (depths ns) k)
+    → tight_run depth ns ≡ map (tightened (suc (suc depth))) ns
+unfolding tight_run
+run_all depth [] deep = refl
+run_all depth (n ∷ ns) deep =
+    let d : depth < n.0 = deep 0 (omega arith) in
+    let t : nat_lt depth n.0 ≡ true = grind (arith, nat_tests, d) in
+    let z : depth + 2 ≡ suc (suc depth) = omega arith in
+    let r = run_all depth ns (λ k l. deep (suc k) (omega arith)) in
+    rw t (ap (λ k. tightened k n ∷ tight_run depth ns) z ∙ ap (λ ms. tightened (suc (suc depth)) n ∷ ms) r)
+
+-- The paragraphs become tight after the list gets its end, or the list is closed as a whole.
+tight_whole : (depth i e : ℕ) (ns : List (ℕ × Item)) (b : ItemBody)
+    → body_at ns i ≡ Some b → is_paragraph_body b ≡ false → flagged false b ≡ b
+    → ((k : ℕ) → i < k → k < length (depths ns) → depth < slice_index (depths ns) k)
+    → tight_at depth (suc i) (modify ns i (λ x. record { start = x.start; «end» = e; body = x.body }))
+    ≡ modify (map_from (tightened (suc (suc depth))) i ns) i (λ x. record { start = x.start; «end» = e; body = flagged false x.body })
+unfolding tight_at
+tight_whole depth i e [] b is other set deep = cc
+tight_whole depth zero e (n ∷ ns) b is other set deep =
+    let same : n.1.body ≡ b = cc in
+    let kept = kept_by (n.0 == suc (suc depth)) n.1 (ap is_paragraph_body same ∙ other) in
+    ap (λ ms. (n.0, node_of n.1.start e n.1.body) ∷ ms) (run_all depth ns (λ k l. deep (suc k) (omega arith) (omega arith)))
+    ∙ ap (λ z. (n.0, node_of n.1.start e z) ∷ map (tightened (suc (suc depth))) ns) (same ∙ sym (ap (flagged false) same ∙ set))
+    ∙ ap (λ (x : Item). (n.0, node_of x.start e (flagged false x.body)) ∷ map (tightened (suc (suc depth))) ns) (sym kept)
+tight_whole depth (suc i) e (n ∷ ns) b is other set deep =
+    ap (λ ms. n ∷ ms) (tight_whole depth i e ns b is other set (λ k l m. deep (suc k) (omega arith) (omega arith)))
+
+-- the flags of a list of either kind
+abbrev pub list_flags_of : ItemBody → Option ListFlags
+list_flags_of (ListBody flags byte number) = Some flags
+list_flags_of (DefinitionList flags) = Some flags
+list_flags_of _ = None
+
+-- a list is no paragraph and no container, and does not change if its flags are set again
+pub list_no_paragraph : (b : ItemBody) (flags : ListFlags) → list_flags_of b ≡ Some flags → is_paragraph_body b ≡ false
+list_no_paragraph b flags h = grind (arith, h)
+
+pub list_no_container : (options : Options) (b : Option ItemBody) (flags : ListFlags) (c : Container) → option_and_then list_flags_of b ≡ Some flags
+    → option_and_then (container_of options) b ≡ Some c → ⊥
+list_no_container options b flags c listed h = grind (arith, listed, h)
+
+pub list_flagged : (b : ItemBody) (loose : Bool) → list_flags_of b ≡ Some (list_flags (not loose)) → flagged loose b ≡ b
+list_flagged b loose h = grind (arith, h)
+
+-- a tight list is closed
+pub tight_closed : (f : Forest Item) (ix : TreeIndex) (rest : List TreeIndex) (e : ℕ) (b : ItemBody)
+    → IsForest f → f.spine ≡ ix ∷ rest → body_at f.nodes ix.0 ≡ Some b → is_paragraph_body b ≡ false → flagged false b ≡ b
+    → (tight_items (closed_by f e (ix ∷ rest)) ix).nodes ≡ list_closed f.nodes ix.0 (suc (suc (suc (length rest)))) false e
+unfolding list_closed
+tight_closed f ix rest e b forest spine is other set =
+    let p : IsOpenPath (depths f.nodes) (ix ∷ rest) = subst (IsOpenPath (depths f.nodes)) spine forest.opened in
+    let nodes : List (ℕ × Item) = modify f.nodes ix.0 (λ x. record { start = x.start; «end» = e; body = x.body }) in
+    let same : depths nodes ≡ depths f.nodes = depths-modify f.nodes ix.0 _ in
+    let z : length rest + 1 ≡ suc (length rest) = omega arith in
+    let at : slice_index (depths nodes) ix.0 ≡ suc (length rest) = ap (λ ds. slice_index ds ix.0) same ∙ p.0.depth ∙ z in
+    let following : (k : ℕ) → ix.0 < k → k < length (depths f.nodes) → suc (length rest) < slice_index (depths f.nodes) k =
+    λ k l m. (let b = p.0.following k l m in omega arith) in
+    let y : ix.0 + 1 ≡ suc ix.0 = omega arith in
+    ap (λ d. tight_at d (ix.0 + 1) nodes) at ∙ ap (λ k. tight_at (suc (length rest)) k nodes) y
+    ∙ tight_whole (suc (length rest)) ix.0 e f.nodes b is other set following
+
+-- a loose list is closed
+pub loose_closed : (f : Forest Item) (ix : TreeIndex) (rest : List TreeIndex) (e : ℕ) (b : ItemBody)
+    → body_at f.nodes ix.0 ≡ Some b → flagged true b ≡ b
+    → (closed_by f e (ix ∷ rest)).nodes ≡ list_closed f.nodes ix.0 (suc (suc (suc (length rest)))) true e
+unfolding list_closed
+loose_closed f ix rest e b is set =
+    changed_alike f.nodes ix.0 _ _ b is (λ x h. ap (λ z. node_of x.start e z) (h ∙ sym set) ∙ ap (λ z. node_of x.start e (flagged true z)) (sym h))
+
 -- the tree after a list with these flags is closed
 abbrev pub list_popped : Forest Item → ℕ → TreeIndex → List TreeIndex → ListFlags → Forest Item
 list_popped f e ix rest flags = if bit_and flags.0 1 == 1 then tight_items (closed_by f e (ix ∷ rest)) ix else closed_by f e (ix ∷ rest)
@@ -156,23 +247,18 @@ closed_as_list : (f : Forest Item) (e : ℕ) (ix : TreeIndex) (rest : List TreeI
     → IsForest f → f.spine ≡ ix ∷ rest → body_at f.nodes ix.0 ≡ Some b → list_flags_of b ≡ Some (list_flags (not loose))
     → (list_popped f e ix rest (list_flags (not loose))).nodes ≡ list_closed f.nodes ix.0 (suc (suc (suc (length rest)))) loose e
 closed_as_list f e ix rest b true forest spine is listed = loose_closed f ix rest e b is (list_flagged b true listed)
-closed_as_list f e ix rest b false forest spine is listed =
-    tight_closed f ix rest e b forest spine is (list_no_paragraph b (list_flags true) listed) (list_flagged b false listed)
+closed_as_list f e ix rest b false forest spine is listed = grind (arith, tight_closed, list_no_paragraph, list_flagged)
 
 pub list_nodes : (f : Forest Item) (e : ℕ) (ix : TreeIndex) (rest : List TreeIndex) (b : ItemBody) (flags : ListFlags) (loose : Bool)
     → IsForest f → f.spine ≡ ix ∷ rest → body_at f.nodes ix.0 ≡ Some b → list_flags_of b ≡ Some flags → flags ≡ list_flags (not loose)
     → (list_popped f e ix rest flags).nodes ≡ list_closed f.nodes ix.0 (suc (suc (suc (length (map (λ (i : TreeIndex). i.0) rest))))) loose e
-list_nodes f e ix rest b flags loose forest spine is listed set =
-    ap (λ z. (list_popped f e ix rest z).nodes) set
-    ∙ closed_as_list f e ix rest b loose forest spine is (listed ∙ ap (λ z. Some z) set)
-    ∙ ap (λ n. list_closed f.nodes ix.0 (suc (suc (suc n))) loose e) (sym (length-map rest (λ (i : TreeIndex). i.0)))
+list_nodes f e ix rest b flags loose forest spine is listed set = grind (arith, closed_as_list, length-map)
 
 -- a closed list is still a list
 tight_there : (nodes : List (ℕ × Item)) (o depth : ℕ) (b : ItemBody) → body_at nodes o ≡ Some b → is_paragraph_body b ≡ false
     → body_at (map_from (tightened depth) o nodes) o ≡ Some b
 tight_there [] o depth b is other = cc
-tight_there (n ∷ nodes) zero depth b is other =
-    let same : n.1.body ≡ b = cc in ap (λ (x : Item). Some x.body) (kept_by (n.0 == depth) n.1 (ap is_paragraph_body same ∙ other)) ∙ is
+tight_there (n ∷ nodes) zero depth b is other = grind (arith, kept_by)
 tight_there (n ∷ nodes) (suc o) depth b is other = tight_there nodes o depth b is other
 
 closed_body : (nodes : List (ℕ × Item)) (o depth : ℕ) (loose : Bool) (e : ℕ) (b : ItemBody) → body_at nodes o ≡ Some b → is_paragraph_body b ≡ false
@@ -209,11 +295,12 @@ pub record PathEnds (d : Document) (path : List Container) (from : Continues) (l
 abbrev pub end_of : (d : Document) (path : List Container) (from : Continues) (lines : List Place) (e : ℕ) → PathEnds d path from lines e → EndHere d path
 end_of d path from lines e h = record { from = from; lines = lines; left = h.left; none = h.none; ends = h.ends }
 
--- they end before lines that do not continue them, or where a footnote definition begins after the one in which they end
+-- they end before lines that do not continue them
 pub line_ends : (d : Document) (path : List Container) (lines : List Place) (e : ℕ) → next_goes_on path lines ≡ false → start_of (length d.text) lines ≡ e
     → PathEnds d path Line lines e
 line_ends d path lines e ends is = let h = end_before_line d path lines ends in record { left = h.left; none = refl; ends = h.ends; at_end = is }
 
+-- if they are in a footnote definition, they end where another one begins
 pub note_ends : (d : Document) (path : List Container) (p : Place) (lines : List Place) → ends_footnote (around d path) p ≡ true
     → PathEnds d path (Inside p) lines (offset (unindented p))
 note_ends d path p lines ends = let h = end_in_line d path p lines ends in record { left = h.left; none = refl; ends = h.ends; at_end = refl }
@@ -234,21 +321,21 @@ module _ (d : Document) (defined : Tables) (f : Forest Item) (run : Bool) (lines
   abbrev now : Forest Item
   now = list_popped f e l.list l.outer l.flags
 
-  -- the list has this frame
-  abbrev Framed : Continues → Frame → Type 0
-  Framed from frame = Innermost d defined f run from lines l.list l.outer frame
+  -- the list has this last child and this frame
+  abbrev Framed : Continues → Closed → Frame → Type 0
+  Framed from closed frame = Innermost d defined f run from lines l.list l.outer closed frame
 
   -- completed nodes after it is closed at an offset
-  abbrev Closes : Continues → List Frame → Bool → ℕ → Type 0
-  Closes from frames loose at =
+  abbrev CompletesClosed : Continues → List Frame → Bool → ℕ → Type 0
+  CompletesClosed from frames loose at =
       CompletesAt d defined (tail OtherClosed run) frames (list_closed f.nodes l.list.0 (suc (suc (suc (length os)))) loose at) os from lines
 
   -- the open nodes that remain
-  list_left_open : (from : Continues) (frame : Frame) (i : Framed from frame) (b : ItemBody) (loose : Bool) → body_at f.nodes l.list.0 ≡ Some b
-      → list_flags_of b ≡ Some (list_flags (not loose)) → IsPlain i.outer → Closes from i.outer loose e → PlainAfter d defined now run from lines OtherClosed
-  list_left_open from frame i b loose is listed plain k =
-      let set : l.flags ≡ list_flags (not loose) =
-      (let same : Some l.flags ≡ Some (list_flags (not loose)) = sym l.listed ∙ ap (option_and_then list_flags_of) is ∙ listed in cc) in
+  list_left_open : (from : Continues) (closed : Closed) (frame : Frame) (i : Framed from closed frame) (b : ItemBody) (loose : Bool)
+      → body_at f.nodes l.list.0 ≡ Some b → list_flags_of b ≡ Some (list_flags (not loose)) → IsPlain i.outer → CompletesClosed from i.outer loose e
+      → PlainAfter d defined now run from lines OtherClosed
+  list_left_open from closed frame i b loose is listed plain k =
+      let set : l.flags ≡ list_flags (not loose) = same_Some _ _ (sym l.listed ∙ ap (option_and_then list_flags_of) is ∙ listed) in
       let deep : ℕ = suc (suc (suc (length os))) in
       let nodes : now.nodes ≡ list_closed f.nodes l.list.0 deep loose e =
       list_nodes f e l.list l.outer b l.flags loose forest l.spine is (listed ∙ ap (λ z. Some z) (sym set)) set in
@@ -270,58 +357,48 @@ module _ (d : Document) (defined : Tables) (f : Forest Item) (run : Bool) (lines
       → (blanks : Bool) × (closed_in f ≡ DefinitionClosed (end_of_current f) blanks)
   last_definition loose is = closed_definition f (list_flags (not loose)) (ap (top_in f.nodes) l.spine ∙ is) l.none
 
-  shut_by : (from : Continues) (frame : Frame) → HasFrame d.options (body_at f.nodes l.list.0) frame → Framed from frame
+  close_by : (from : Continues) (frame : Frame) → HasFrame d.options (body_at f.nodes l.list.0) frame → Framed from (closed_in f) frame
       → PathEnds d (path_of d.options f) from lines e → PlainAfter d defined now run from lines OtherClosed
-  shut_by from (InContainer c) h i ends = absurd (no_container c h)
-  shut_by from (InList byte loose) h i ends =
+  close_by from (InContainer c) h i ends = absurd (no_container c h)
+  close_by from (InList byte loose) h i ends =
       let over = subst (λ z. PathEnds d z from lines e) i.path ends in
-      list_left_open from (InList byte loose) i (ListBody (list_flags (not loose)) byte h.0) loose h.1 refl i.completes.shape.0
-      (subst (Closes from i.outer loose) over.at_end
+      list_left_open from (closed_in f) (InList byte loose) i (ListBody (list_flags (not loose)) byte h.0) loose h.1 refl i.completes.shape.0
+      (subst (CompletesClosed from i.outer loose) over.at_end
       (completes-pop_list d (open_nodes defined i.outer f.nodes os) (tail (closed_in f) run) byte loose l.list.0
       (end_of d (containers_of i.outer) from lines e over) i.completes))
-  shut_by from (InDefinitions loose) h i ends =
-      let over = subst (λ z. PathEnds d z from lines e) i.path ends in
+  close_by from (InDefinitions loose) h i ends =
       let c = last_definition loose h in
-      list_left_open from (InDefinitions loose) i (DefinitionList (list_flags (not loose))) loose h refl i.completes.shape.0
-      (subst (Closes from i.outer loose) over.at_end
-      (completes-pop_definitions d (open_nodes defined i.outer f.nodes os) (record { place = l.list.0; «end» = end_of_current f; loose = loose }) c.0 run
-      (end_of d (containers_of i.outer) from lines e over)
-      (subst (λ z. CompletesAt d defined (tail z run) (InDefinitions loose ∷ i.outer) f.nodes (l.list.0 ∷ os) from lines) c.1 i.completes)))
+      let j = subst (λ z. Framed from z (InDefinitions loose)) c.1 i in
+      let over = subst (λ z. PathEnds d z from lines e) j.path ends in
+      list_left_open from (DefinitionClosed (end_of_current f) c.0) (InDefinitions loose) j (DefinitionList (list_flags (not loose))) loose h refl
+      j.completes.shape.0 (subst (CompletesClosed from j.outer loose) over.at_end
+      (completes-pop_definitions d (open_nodes defined j.outer f.nodes os) (record { place = l.list.0; «end» = end_of_current f; loose = loose }) c.0 run
+      (end_of d (containers_of j.outer) from lines e over) j.completes))
 
   -- the list is closed with the container around it
-  pub shut_list : (from : Continues) → PathEnds d (path_of d.options f) from lines e → ReadyAt d defined f run from lines
+  pub close_list : (from : Continues) → PathEnds d (path_of d.options f) from lines e → ReadyAt d defined f run from lines
       → PlainAfter d defined now run from lines OtherClosed
-  shut_list from ends ready =
-      let i = innermost_of d defined f run from lines l.list l.outer l.spine ready in shut_by from i.0 i.1 i.2 ends
+  close_list from ends ready =
+      let i = innermost_of d defined f run from lines l.list l.outer l.spine ready in close_by from i.0 i.1 i.2 ends
 
-  leave_by : (p : Place) (opening : Opening) (frame : Frame) → HasFrame d.options (body_at f.nodes l.list.0) frame → Framed (Inside p) frame
+  leave_by : (p : Place) (opening : Opening) (frame : Frame) → HasFrame d.options (body_at f.nodes l.list.0) frame → Framed (Inside p) (closed_in f) frame
       → StaysAt d (path_of d.options f) p → Opens d (level_of d.options f run) p lines opening → EndsListAt e (top_body f) (closed_in f) opening
       → PlainAfter d defined now run (Inside p) lines OtherClosed
   leave_by p opening (InContainer c) h i stays opens away = absurd (no_container c h)
   leave_by p opening (InList byte loose) h i stays opens away =
-      list_left_open (Inside p) (InList byte loose) i (ListBody (list_flags (not loose)) byte h.0) loose h.1 refl i.completes.shape.0
-      (completes-close d (open_nodes defined i.outer f.nodes os) (tail (closed_in f) run) byte loose l.list.0 e (record {
-        place = p;
-        lines = lines;
-        opening = opening;
-        stays = subst (λ z. StaysAt d z p) i.path stays;
-        opens = subst (λ z. Opens d z p lines opening) i.level opens;
-      }) (subst (λ z. EndsListAt e z (closed_in f) opening) (ap (top_in f.nodes) l.spine ∙ h.1) away) i.completes)
+      list_left_open (Inside p) (closed_in f) (InList byte loose) i (ListBody (list_flags (not loose)) byte h.0) loose h.1 refl i.completes.shape.0
+      (completes-close d (open_nodes defined i.outer f.nodes os) (tail (closed_in f) run) byte loose l.list.0 e
+      (at_level d (path_of d.options f) _ _ p lines opening i.level i.path stays opens)
+      (subst (λ z. EndsListAt e z (closed_in f) opening) (ap (top_in f.nodes) l.spine ∙ h.1) away) i.completes)
   leave_by p opening (InDefinitions loose) h i stays opens away =
       let c = last_definition loose h in
-      let frames : List Frame = InDefinitions loose ∷ i.outer in
-      list_left_open (Inside p) (InDefinitions loose) i (DefinitionList (list_flags (not loose))) loose h refl i.completes.shape.0
-      (completes-close_definitions d (open_nodes defined i.outer f.nodes os)
-      (record { place = l.list.0; «end» = end_of_current f; loose = loose }) c.0 run e (record {
-        place = p;
-        lines = lines;
-        opening = opening;
-        stays = subst (λ z. StaysAt d z p) i.path stays;
-        opens = subst (λ z. Opens d z p lines opening) (i.level ∙ ap (λ z. lvl frames (tail z run)) c.1) opens;
-      })
+      let j = subst (λ z. Framed (Inside p) z (InDefinitions loose)) c.1 i in
+      list_left_open (Inside p) (DefinitionClosed (end_of_current f) c.0) (InDefinitions loose) j (DefinitionList (list_flags (not loose))) loose h refl
+      j.completes.shape.0 (completes-close_definitions d (open_nodes defined j.outer f.nodes os)
+      (record { place = l.list.0; «end» = end_of_current f; loose = loose }) c.0 run e
+      (at_level d (path_of d.options f) _ _ p lines opening j.level j.path stays opens)
       (subst (λ z. EndsListAt e (Some (DefinitionList (list_flags (not loose)))) z opening) c.1
-      (subst (λ z. EndsListAt e z (closed_in f) opening) (ap (top_in f.nodes) l.spine ∙ h) away))
-      (subst (λ z. CompletesAt d defined (tail z run) frames f.nodes (l.list.0 ∷ os) (Inside p) lines) c.1 i.completes))
+      (subst (λ z. EndsListAt e z (closed_in f) opening) (ap (top_in f.nodes) l.spine ∙ h) away)) j.completes)
 
   -- the list is closed before a block that ends it
   pub leave_list : (p : Place) (opening : Opening) → StaysAt d (path_of d.options f) p → Opens d (level_of d.options f run) p lines opening

@@ -4,8 +4,8 @@ use Rattle.std.proofs.Common.{is_some, refl, sym, ap, subst, ◌∙◌, arith, i
 use Rattle.first_pass_grammar.proofs.Common.{cond_both, Item, ItemBody, DefinitionList, MaybeDefinitionListTitle, ListFlags, Options, TreeIndex, Forest}
 use Rattle.first_pass_grammar.proofs.Common.{IsForest, modify, empty_forest, with_end_at, with_body_at, body_at, tight_body, tightened, tight_run, tight_at}
 use Rattle.first_pass_grammar.proofs.Common.{tight_items, Rest, Place, start_of, Names, after, next_goes_on, Document, document, Line, Blanks, level}
-use Rattle.first_pass_grammar.proofs.Common.{is_blank_after, next_is_blank, Tables, no_tables, Derives, lines_from, Frame, InContainer, last_plain}
-use Rattle.first_pass_grammar.proofs.Common.{InDefinitions, InList, body-kept, body_of}
+use Rattle.first_pass_grammar.proofs.Common.{is_blank_after, next_is_blank, Tables, no_tables, Derives, lines_from, Frame, InContainer, last_plain, body-kept}
+use Rattle.first_pass_grammar.proofs.Common.{body_of}
 use Rattle.first_pass_items.specs.declared.item.ItemBody.TheVariants.{Paragraph as ParagraphBody, List as ListBody}
 use Rattle.first_pass_grammar.specs.declared.kind.Container.{Container}
 use Rattle.first_pass_grammar.proofs.Sequences.Finishes.{CompletesAt, Tail}
@@ -13,19 +13,17 @@ use Rattle.first_pass_completion.proofs.Extending.{tail}
 use Rattle.first_pass_grammar.proofs.Sequences.Goings.{stops, stops_blank}
 use Rattle.first_pass_completion.proofs.Completions.{completes-first, completes-end}
 use Rattle.first_pass_open.specs.OpenBlock.{closed_by}
-use Rattle.first_pass_lists.specs.Closing.{state_with, top_body, top_end, is_definition_list, possible_title, popped_by, popped_at, popped_after}
-use Rattle.first_pass_lists.specs.Closing.{with_tree, popped, is_item, is_list, list_closed}
+use Rattle.first_pass_lists.specs.Closing.{state_with, top_body, top_end, is_definition_list, possible_title, popped_by, popped_after, with_tree}
+use Rattle.first_pass_lists.specs.Closing.{popped, is_item, is_list, list_closed}
 use Rattle.first_pass_lists.specs.declared.state.PassState.{PassState}
 use Rattle.first_pass_open.specs.Path.{container_of, container_at, with_container, path_in, path_of, outer}
 use Rattle.first_pass_ready.specs.State.{closed_in, AreOpen, ReadyAt, ReadyBeforeLine, ReadyInItem, ReadyWith, NoMore, Ready, item_columns}
 use Rattle.first_pass_open.proofs.FrontLemmas.{outer-all}
-use Rattle.first_pass_ready.proofs.ClosedIn.{top_in, title_is, list_class}
+use Rattle.first_pass_ready.proofs.ClosedIn.{top_in, title_is, list_class, plain_top}
 use Rattle.first_pass_ready.proofs.ItemBodies.{item_body, item_container, item_own, item_path, after_zero, item_kind}
-use Rattle.first_pass_ready.proofs.ListLemmas.{list_flags_of}
-use Rattle.first_pass_ready.proofs.PopLemmas.{list_popped, list_spine, leave_container, PlainList, innermost_of, line_ends, shut_list}
-use Rattle.first_pass_ready.proofs.TitlePops.{body-moved, TitledList, shut_title, title_closed}
+use Rattle.first_pass_ready.proofs.PopLemmas.{list_flags_of, list_popped, list_spine, leave_container, PlainList, innermost_of, line_ends, close_list}
+use Rattle.first_pass_ready.proofs.TitlePops.{body-moved, TitledList, close_title, title_closed, definitions_closed_is}
 use Rattle.first_pass_ready.proofs.OpenLemmas.{HasFrame}
-use Rattle.first_pass_ready.proofs.TitleMoved.{definitions_closed_is}
 
 -- before the first block
 pub ready_first : (text : List ℕ) (options : Options) (names : Names) (tree : Forest Item) (root : TreeIndex) → root.0 ≡ 0
@@ -37,20 +35,15 @@ ready_first text options names tree root top tree_is =
     subst (λ f. ReadyAt (document text options names) no_tables f false Line (lines_from text 0)) (sym e)
     (record { frames = []; are_open = tt; completes = completes-first (document text options names); silent = tt })
 
-ended_by : (d : Document) (defined : Tables) (tree : Forest Item) (t : Tail) (frames : List Frame)
-    → AreOpen d.options tree.nodes [] frames → CompletesAt d defined t frames tree.nodes [] Line [] → Derives d tree.nodes defined
-ended_by d defined tree t [] o k = completes-end d defined t tree.nodes k
-ended_by d defined tree t (frame ∷ frames) o k = absurd o
-
--- at the end of the text, with nothing open
-ready_end : (d : Document) (defined : Tables) (tree : Forest Item) (run : Bool)
-    → tree.spine ≡ [] → ReadyAt d defined tree run Line [] → Derives d tree.nodes defined
-ready_end d defined tree run closed ready =
-    ended_by d defined tree (tail (closed_in tree) run) ready.frames (subst (λ s. AreOpen d.options tree.nodes s ready.frames) closed ready.are_open)
-    (subst (λ s. CompletesAt d defined (tail (closed_in tree) run) ready.frames tree.nodes (map (λ (ix : TreeIndex). ix.0) s) Line []) closed ready.completes)
+ended_by : (d : Document) (defined : Tables) (nodes : List (ℕ × Item)) (t : Tail) (s : List TreeIndex) (frames : List Frame) → s ≡ []
+    → AreOpen d.options nodes s frames → CompletesAt d defined t frames nodes (map (λ (ix : TreeIndex). ix.0) s) Line [] → Derives d nodes defined
+ended_by d defined nodes t [] [] closed o k = completes-end d defined t nodes k
+ended_by d defined nodes t [] (frame ∷ frames) closed o k = absurd o
+ended_by d defined nodes t (ix ∷ s) frames closed o k = cc
 
 ended_with : (d : Document) (defined : Tables) (r : PassState) (o : Option ℕ) → r.tree.spine ≡ [] → ReadyWith d defined r [] o → Derives d r.tree.nodes defined
-ended_with d defined r None closed ready = ready_end d defined r.tree r.blank closed ready
+ended_with d defined r None closed ready =
+    ended_by d defined r.tree.nodes (tail (closed_in r.tree) r.blank) r.tree.spine ready.frames closed ready.are_open ready.completes
 ended_with d defined r (Some e) closed ready = (let x : [] ≡ ready.place ∷ ready.outer = sym closed ∙ ready.spine in cc)
 
 -- at the end of the text, with nothing open
@@ -64,15 +57,15 @@ pub ready_plain : (d : Document) (defined : Tables) (r : PassState) (lines : Lis
 unfolding Ready
 ready_plain d defined r lines none ready = subst (λ o. ReadyWith d defined r lines o) (sym none) ready
 
--- if the next line does not continue a path, it is not blank after it
 not_blank_by : (o : Option Rest) → is_some o ≡ false → is_blank_after o ≡ false
-not_blank_by None h = refl
-not_blank_by (Some r) h = absurd (true≢false h)
+not_blank_by o h = grind (arith, h)
 
+-- if the next line does not continue a path, it is not blank after it
 not_blank : (path : List Container) (lines : List Place) → next_goes_on path lines ≡ false → next_is_blank path lines ≡ false
 not_blank path [] h = refl
 not_blank path (line ∷ lines) h = not_blank_by (after path line.rest) h
 
+-- nor does it continue the path without an item or a definition that takes only blank lines
 not_on : (b : ItemBody) (path : List Container) (lines : List Place) → next_goes_on (item_container b 0 ∷ path) lines ≡ false → next_goes_on path lines ≡ false
 not_on b path [] h = refl
 not_on b path (line ∷ lines) h = ap is_some (sym (after_zero b path line.rest)) ∙ h
@@ -84,16 +77,13 @@ untitled f (Some title) is h = absurd (true≢false (sym (ap is_definition_list 
 
 no_title_at : (f : Forest Item) (ix : TreeIndex) (rest : List TreeIndex) (b : ItemBody) → f.spine ≡ ix ∷ rest → body_at f.nodes ix.0 ≡ Some b
     → is_definition_list (Some b) ≡ false → possible_title f ≡ None
-no_title_at f ix rest b spine is h =
-    untitled f (possible_title f) refl (ap (λ s. is_definition_list (top_in f.nodes s)) spine ∙ ap is_definition_list is ∙ h)
+no_title_at f ix rest b spine is h = grind (arith, untitled)
 
 -- the innermost open node is closed, if its last child is no possible title
 popped_is : (e : ℕ) (r : PassState) (ix : TreeIndex) (rest : List TreeIndex) → r.tree.spine ≡ ix ∷ rest → possible_title r.tree ≡ None
     → popped e r ≡ popped_by r (closed_by r.tree e (ix ∷ rest)) ix (body_at r.tree.nodes ix.0)
 unfolding popped
-popped_is e r ix rest spine none =
-    ap (popped_after e r) none ∙ ap (popped_at e r) spine ∙ ap (popped_by r (closed_by r.tree e (ix ∷ rest)) ix)
-    (body-kept r.tree.nodes ix.0 ix.0 (λ x. record { start = x.start; «end» = e; body = x.body }) (λ x. refl))
+popped_is e r ix rest spine none = grind (arith, body-kept)
 
 -- a list
 list_by : (e : ℕ) (r : PassState) (ix : TreeIndex) (rest : List TreeIndex) (b : Option ItemBody) (flags : ListFlags)
@@ -130,18 +120,14 @@ item_popped e r ix rest b n spine is =
     popped_as e r ix rest (item_body b n) spine is (item_kind b n).1
     ∙ ap (λ t. record r { tree = closed_by r.tree e (ix ∷ rest); begin_list_item = if t then None else r.begin_list_item }) (item_kind b n).0
 
--- its last child is a possible title
+-- a node with another body than the one that changes keeps its body
 body_apart : (nodes : List (ℕ × Item)) (place i : ℕ) (g : Item → Item) (a b : ItemBody) → (a ≡ b → ⊥) → body_at nodes place ≡ Some a
     → body_at nodes i ≡ Some b → body_at (modify nodes place g) i ≡ Some b
-body_apart [] place i g a b apart here there = there
-body_apart (n ∷ nodes) zero zero g a b apart here there = absurd (apart (let one : n.1.body ≡ a = cc in let two : n.1.body ≡ b = cc in sym one ∙ two))
-body_apart (n ∷ nodes) zero (suc i) g a b apart here there = there
-body_apart (n ∷ nodes) (suc place) zero g a b apart here there = there
+body_apart (n ∷ nodes) zero zero g a b apart here there = absurd (apart cc)
 body_apart (n ∷ nodes) (suc place) (suc i) g a b apart here there = body_apart nodes place i g a b apart here there
+body_apart nodes place i g a b apart here there = there
 
-title_no_list : (flags : ListFlags) → MaybeDefinitionListTitle ≡ DefinitionList flags → ⊥
-title_no_list flags h = cc
-
+-- a definition list whose last child is a possible title
 popped_title : (e : ℕ) (r : PassState) (l : TitledList r.tree) → possible_title r.tree ≡ Some l.title → popped e r ≡ record r { tree = title_closed r.tree l }
 unfolding popped
 popped_title e r l is =
@@ -151,7 +137,7 @@ popped_title e r l is =
     ap (popped_after e r) is
     ∙ definitions_closed_is (top_end r.tree) q l.list l.outer t.flags l.title l.spine
     (body_apart r.tree.nodes l.title.0 l.list.0 (λ x. record { start = x.start; «end» = x.«end»; body = ParagraphBody }) MaybeDefinitionListTitle
-    (DefinitionList t.flags) (title_no_list t.flags) (body_of r.tree l.title t.item t.is ∙ ap (λ z. Some z) t.body) listed) t.current
+    (DefinitionList t.flags) (λ h. cc) (body_of r.tree l.title t.item t.is ∙ ap (λ z. Some z) t.body) listed) t.current
 
 -- The innermost open node is closed: a list, a definition list whose last child is a possible title, or another node.
 module _ (e : ℕ) (r : PassState) (ix : TreeIndex) (rest : List TreeIndex) (spine : r.tree.spine ≡ ix ∷ rest) (P : PassState → Type 0)
@@ -212,10 +198,7 @@ tightened_container options t x = grind (arith, tight_container)
 run_containers : (depth : ℕ) (nodes : List (ℕ × Item)) → SameContainers nodes (tight_run depth nodes)
 unfolding tight_run
 run_containers depth [] options i = refl
-run_containers depth (n ∷ nodes) options zero =
-    cond_both (nat_lt depth n.0) (tightened (depth + 2) n ∷ tight_run depth nodes) (n ∷ nodes)
-    (λ z. option_and_then (container_of options) (body_at z 0) ≡ container_of options n.1.body)
-    (λ t. tightened_container options (n.0 == (depth + 2)) n.1) (λ t. refl)
+run_containers depth (n ∷ nodes) options zero = grind (arith, cond_both, tightened_container)
 run_containers depth (n ∷ nodes) options (suc i) =
     cond_both (nat_lt depth n.0) (tightened (depth + 2) n ∷ tight_run depth nodes) (n ∷ nodes)
     (λ z. option_and_then (container_of options) (body_at z (suc i)) ≡ option_and_then (container_of options) (body_at nodes i))
@@ -224,14 +207,12 @@ run_containers depth (n ∷ nodes) options (suc i) =
 tight_containers : (depth from : ℕ) (nodes : List (ℕ × Item)) → SameContainers nodes (tight_at depth from nodes)
 unfolding tight_at
 tight_containers depth zero nodes options i = run_containers depth nodes options i
-tight_containers depth (suc from) [] options i = refl
-tight_containers depth (suc from) (n ∷ nodes) options zero = refl
 tight_containers depth (suc from) (n ∷ nodes) options (suc i) = tight_containers depth from nodes options i
+tight_containers depth (suc from) nodes options i = refl
 
 module _ (e : ℕ) (f : Forest Item) (ix : TreeIndex) (rest : List TreeIndex) where
   pub closed_containers : SameContainers f.nodes (closed_by f e (ix ∷ rest)).nodes
-  closed_containers options i =
-      ap (option_and_then (container_of options)) (body-kept f.nodes ix.0 i (λ x. record { start = x.start; «end» = e; body = x.body }) (λ x. refl))
+  closed_containers options i = grind (arith, body-kept)
 
   list_containers : (t : Bool) → SameContainers f.nodes (if t then tight_items (closed_by f e (ix ∷ rest)) ix else closed_by f e (ix ∷ rest)).nodes
   list_containers true options i = tight_containers _ (ix.0 + 1) (closed_by f e (ix ∷ rest)).nodes options i ∙ closed_containers options i
@@ -241,8 +222,7 @@ module _ (e : ℕ) (f : Forest Item) (ix : TreeIndex) (rest : List TreeIndex) wh
 pub unnamed : (nodes : List (ℕ × Item)) (place : ℕ) (a b : ItemBody)
     → ((options : Options) → (container_of options a ≡ None) × (container_of options b ≡ None))
     → body_at nodes place ≡ Some a → SameContainers nodes (modify nodes place (λ x. record { start = x.start; «end» = x.«end»; body = b }))
-unnamed (n ∷ nodes) zero a b none is options zero =
-    (let h : n.1.body ≡ a = cc in (none options).1 ∙ sym (ap (container_of options) h ∙ (none options).0))
+unnamed (n ∷ nodes) zero a b none is options zero = grind arith
 unnamed (n ∷ nodes) (suc place) a b none is options (suc i) = unnamed nodes place a b none is options i
 unnamed nodes place a b none is options w = refl
 
@@ -322,8 +302,7 @@ module _ (d : Document) (defined : Tables) (r : PassState) (lines : List Place) 
 
   -- a line does not continue the innermost open node, a container
   container_ends : (c : Container) → container_at d.options r.tree.nodes ix ≡ Some c → next_goes_on (c ∷ path) lines ≡ false
-  container_ends c is =
-      subst (λ o. next_goes_on (with_container o path) lines ≡ false) is (subst (λ s. next_goes_on (path_in d.options r.tree.nodes s) lines ≡ false) spine ends)
+  container_ends c is = grind arith
 
   -- it is closed before the next line
   pop_container : (run : Bool) (c : Container) → container_at d.options r.tree.nodes ix ≡ Some c
@@ -336,20 +315,16 @@ module _ (d : Document) (defined : Tables) (r : PassState) (lines : List Place) 
   pop_framed : (frame : Frame) → HasFrame d.options (body_at r.tree.nodes ix.0) frame → is_list (body_at r.tree.nodes ix.0) ≡ false
       → ReadyAt d defined r.tree r.blank Line lines → ReadyAt d defined (closed_by r.tree e (ix ∷ rest)) r.blank Line lines
   pop_framed (InContainer c) h other ready = pop_container r.blank c h ready
-  pop_framed (InList byte loose) h other ready = absurd (true≢false (sym (ap is_list h.1) ∙ other))
-  pop_framed (InDefinitions loose) h other ready = absurd (true≢false (sym (ap is_list h) ∙ other))
+  pop_framed frame h other ready = absurd (plain_top d.options (body_at r.tree.nodes ix.0) (frame ∷ []) h other)
 
   pop_plain : ReadyAt d defined r.tree r.blank Line lines → ReadyAt d defined (popped e r).tree r.blank Line lines
   pop_plain ready = popped_cases e r ix rest spine (λ q. ReadyAt d defined q.tree r.blank Line lines)
-      (λ l. (shut_list d defined r.tree r.blank lines e forest l Line (line_ends d (path_of d.options r.tree) lines e ends starts) ready).ready)
-      (λ l. (shut_title d defined r.tree r.blank lines forest l Line e (line_ends d (path_of d.options r.tree) lines e ends starts) ready).ready)
+      (λ l. (close_list d defined r.tree r.blank lines e forest l Line (line_ends d (path_of d.options r.tree) lines e ends starts) ready).ready)
+      (λ l. (close_title d defined r.tree r.blank lines forest l Line e (line_ends d (path_of d.options r.tree) lines e ends starts) ready).ready)
       (λ other. let i = innermost_of d defined r.tree r.blank Line lines ix rest spine ready in pop_framed i.0 i.1 other ready)
 
   pop_none : r.begin_list_item ≡ None → ReadyAt d defined r.tree r.blank Line lines → Ready d defined (popped e r) lines
-  pop_none none ready =
-      let kept = popped_kept e r ix rest spine in
-      ready_plain d defined (popped e r) lines (kept.none none)
-      (subst (λ b. ReadyAt d defined (popped e r).tree b Line lines) (sym kept.blank) (pop_plain ready))
+  pop_none none ready = grind (arith, popped_kept, ready_plain, pop_plain)
 
   -- the innermost open node is an item or a definition, which may be empty
   module _ (b : ItemBody) (columns : ℕ) (item : body_at r.tree.nodes ix.0 ≡ Some (item_body b columns)) where
@@ -386,8 +361,7 @@ pub ready_pop : (d : Document) (defined : Tables) (r : PassState) (lines : List 
     → IsForest r.tree → r.tree.spine ≡ ix ∷ rest → start_of (length d.text) lines ≡ e → next_goes_on (path_of d.options r.tree) lines ≡ false
     → Ready d defined r lines → Ready d defined (popped e r) lines
 unfolding Ready
-ready_pop d defined r lines e ix rest forest spine e_is ends ready =
-    pop_with d defined r lines e ix rest forest spine e_is ends r.begin_list_item refl ready
+ready_pop d defined r lines e ix rest forest spine e_is ends ready = grind (arith, pop_with)
 
 outer_next : (s : List TreeIndex) (x : TreeIndex) (xs : List TreeIndex)
     → suc (length xs) ≤ length s → x ∷ xs ≡ outer (suc (length xs)) s → xs ≡ outer (length xs) s
@@ -405,13 +379,7 @@ pub record ClosedSoFar (old now : PassState) (kept at : ℕ) : Type 0 where
       → start_of (length d.text) lines ≡ at → NoMore d.options old.tree kept lines → Ready d defined old lines → Ready d defined now lines
 
 pub closed_none : (old : PassState) (kept at : ℕ) → kept ≤ length old.tree.spine → ClosedSoFar old old kept at
-closed_none old kept at h = record {
-  enough = h;
-  fewer = (let l : length old.tree.spine ≡ length old.tree.spine = refl in omega arith);
-  spine = sym (outer-all old.tree.spine);
-  paths = λ options s. refl;
-  ready = λ d defined lines e none ready. ready;
-}
+closed_none old kept at h = grind (arith, outer-all)
 
 closed_more : (old now : PassState) (kept at : ℕ) (s : List TreeIndex) → IsForest now.tree → now.tree.spine ≡ s → kept < length s → ClosedSoFar old now kept at
     → ClosedSoFar old (popped at now) kept at × (length (popped at now).tree.spine < length s)
@@ -438,6 +406,4 @@ closed_more old now kept at (ix ∷ rest) forest spine more c =
 -- one of the open nodes that are to be closed is closed
 pub closed_one : (old now new : PassState) (kept at : ℕ) → IsForest now.tree → new ≡ popped at now → kept < length now.tree.spine → ClosedSoFar old now kept at
     → ClosedSoFar old new kept at × (length new.tree.spine < length now.tree.spine)
-closed_one old now new kept at forest is more c =
-    subst (λ q. ClosedSoFar old q kept at × (length q.tree.spine < length now.tree.spine)) (sym is)
-    (closed_more old now kept at now.tree.spine forest refl more c)
+closed_one old now new kept at forest is more c = rw is (closed_more old now kept at now.tree.spine forest refl more c)

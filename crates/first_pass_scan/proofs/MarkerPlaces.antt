@@ -1,5 +1,5 @@
 -- Facts on the part of a line that a marker takes: bytes of its content, the last of them ASCII, and columns.
-use Rattle.std.proofs.Common.{◌≡◌, inl, inr, ℕ, zero, suc, ◌+◌, ◌-◌, ◌<◌, ◌≤◌, nat_le, Bool, true, false, ◌==◌, ◌&&◌, ◌||◌, not, List, ◌∷◌, length, []}
+use Rattle.std.proofs.Common.{◌≡◌, inl, inr, ℕ, zero, suc, ◌+◌, ◌-◌, ◌<◌, ◌≤◌, nat_le, Bool, true, false, ◌==◌, ◌&&◌, ◌||◌, List, ◌∷◌, length, []}
 use Rattle.std.proofs.Common.{take, drop, get_or, slice_index, Option, Some, None, is_some, IsUtf8, refl, sym, ap, subst, ◌∙◌, arith, length-drop}
 use Rattle.std.proofs.Common.{get_or-drop, if◌then◌else◌, option_map, eqb-true}
 use Rattle.std.specs.List.{prefix_len}
@@ -14,8 +14,7 @@ use Rattle.first_pass_lines.proofs.OptionFacts.{some_if, some_mapped}
 use Rattle.first_pass_lines.specs.Lines.{is_content, is_white, is_white_or_line_end, begins, blank_len, at_line_end}
 use Rattle.first_pass_lines.specs.Rest.{Rest, past_bytes, after_columns, indent}
 use Rattle.first_pass_lines.specs.Places.{place_at, line_end, moved_bytes, IsPlaceOf}
-use Rattle.first_pass_scan.specs.LeafLines.{hrule_len}
-use Rattle.first_pass_scan.specs.Markers.{is_bullet, number_from, bullet_marker, delimited, ordered_marker, list_marker, content_indent, after_marker}
+use Rattle.first_pass_scan.specs.Markers.{number_from, bullet_marker, delimited, ordered_marker, list_marker, content_indent, after_marker}
 use Rattle.first_pass_scan.specs.Markers.{after_colon, item_by, item_of, definition_of, is_checked, task_box, task_of}
 use Rattle.first_pass_lines.proofs.PlaceFacts.{ascii_keeps, columns_keep, bytes_line_end, columns_line_end}
 
@@ -68,31 +67,19 @@ marked_by r s n j k f o e = record { width = n; first = j; further = k; some = f
 -- the first byte
 first_front : (c : ℕ) (bs : List ℕ) → c < ascii_end → is_content c ≡ true → begins c bs ≡ true → IsFrontOf bs 1
 first_front c [] l e h = absurd (false≢true h)
-first_front c (b ∷ bs) l e h =
-    let same : b ≡ c = eqb-true b c h in
-    let content : is_content b ≡ true = ap is_content same ∙ e in
-    record { some = omega arith; within = rw content (omega arith); ascii = omega arith }
+first_front c (b ∷ bs) l e h = grind arith
 
 -- list markers
 bullet_front : (bs : List ℕ) (m : ℕ × ℕ × ℕ) → bullet_marker bs ≡ Some m → IsFrontOf bs m.0
 bullet_front [] m h = absurd (none-some m h)
-bullet_front (b ∷ bs) m h =
-    let p = cond_some (is_bullet b) (1, b, 0) m h in
-    let w : m.0 ≡ 1 = sym (ap (λ (x : ℕ × ℕ × ℕ). x.0) p.1) in
-    let content : is_content b ≡ true = grind (arith, nat_tests, p.0) in
-    let small : b < ascii_end = grind (arith, nat_tests, p.0) in
-    rw w (record { some = omega arith; within = rw content (omega arith); ascii = small })
+bullet_front (b ∷ bs) m h = grind (arith, cond_some, nat_tests)
 
 digit_content : (b : ℕ) → is_ascii_digit b ≡ true → is_content b ≡ true
 digit_content b h = grind (arith, nat_tests, h)
 
 each_content : (bs : List ℕ) (n k d : ℕ)
     → n ≡ prefix_len is_ascii_digit bs → get_or bs n 0 ≡ d → is_content d ≡ true → k < n + 1 → is_content (get_or bs k 0) ≡ true
-each_content bs n k d e at c h =
-    elim (cases_lt k n) as (λ _. is_content (get_or bs k 0) ≡ true) [
-      | inl less ↦ digit_content (get_or bs k 0) (prefix_len_passes is_ascii_digit bs k 0 (omega arith))
-      | inr more ↦ let same : k ≡ n = omega arith in ap (λ j. is_content (get_or bs j 0)) same ∙ ap is_content at ∙ c
-    ]
+each_content bs n k d e at c h = grind (arith, cases_lt, digit_content, prefix_len_passes)
 
 delimited_front : (bs : List ℕ) (n number : ℕ) (rest : List ℕ) (m : ℕ × ℕ × ℕ)
     → rest ≡ drop n bs → n ≡ prefix_len is_ascii_digit bs → delimited n number rest ≡ Some m → IsFrontOf bs m.0
@@ -151,9 +138,7 @@ item_marked outer r (Some m) item e o h =
 
 pub item-marked : (outer : ℕ) (r : Rest) (item : (ℕ × ℕ × ℕ) × Rest) → item_of outer r ≡ Some item → IsMarked r item.1
 unfolding item_of
-item-marked outer r item h =
-    let p = some_if ((r.owed == 0) && not (is_some (hrule_len r.left))) (item_by outer r (list_marker r.left)) item h in
-    item_marked outer r (list_marker r.left) item refl (eqb-true r.owed 0 ((and_parts _ _ p.0).0)) p.1
+item-marked outer r item h = grind (arith, some_if, item_marked, and_parts)
 
 -- the marker of a definition
 colon_by : (t : Bool) (n : ℕ) (q : Rest)
@@ -170,7 +155,7 @@ definition-marked outer r definition h =
     let c = colon_by (nat_le 1 (indent q)) (outer + 1) q in
     marked_by r definition.1 1 c.0 c.1 (first_front colon r.left (omega arith) refl a.1) (eqb-true r.owed 0 a.0) (sym (ap (λ (x : ℕ × Rest). x.1) p.1) ∙ c.2)
 
--- the marker of a task
+-- a task list item marker
 mark_content : (b : ℕ) → (is_white b || is_checked b) ≡ true → is_content b ≡ true
 mark_content b h = grind (arith, nat_tests, h)
 

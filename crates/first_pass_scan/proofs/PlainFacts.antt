@@ -1,12 +1,10 @@
 -- With a plain byte no line ending, marker, thematic break, ATX heading or code fence begins. With an inert byte no
 -- column, block quote or list item begins.
-use Rattle.std.proofs.Common.{◌≡◌, inl, inr, ℕ, ◌+◌, ◌==◌, Bool, true, false, true≢false, List, [], ◌∷◌, None, refl, sym, ap, ◌∙◌}
-use Rattle.std.proofs.Common.{arith, ne_eqb}
+use Rattle.std.proofs.Common.{◌≡◌, ℕ, ◌==◌, Bool, true, false, true≢false, List, [], ◌∷◌, None, refl, sym, arith}
 use Rattle.std.proofs.lemmas.Bool.{cases_eq, or_parts, not-true, cond_both}
 use Rattle.std.proofs.lemmas.Bool.Decides.{nat_tests}
 use Rattle.std.specs.Char.{is_ascii_digit}
-use Rattle.first_pass_items.specs.Bytes.{tab, line_feed, line_tabulation, form_feed, carriage_return, space, number_sign, asterisk, plus_sign, hyphen}
-use Rattle.first_pass_items.specs.Bytes.{greater_than, underscore, backquote, tilde}
+use Rattle.first_pass_items.specs.Bytes.{tab, line_feed, carriage_return, space, asterisk, hyphen, greater_than, underscore, backquote, tilde}
 use Rattle.first_pass_lines.specs.Rest.{Rest, column_of_byte, columns_of, after_columns, indent, past_quote_byte, past_quote}
 use Rattle.first_pass_lines.specs.Lines.{is_white, begins, eol_len, blank_len, atx_level}
 use Rattle.first_pass_scan.specs.LeafLines.{hrule_len, code_fence}
@@ -16,10 +14,7 @@ use Rattle.first_pass_lines.specs.Plain.{is_plain, begins_plain, is_inert, begin
 
 -- a byte that passes a test differs from a byte that fails it
 pub isnt : (test : ℕ → Bool) (b c : ℕ) → test b ≡ true → test c ≡ false → b == c ≡ false
-isnt test b c h k = elim (cases_eq b c) [
-  | inl same ↦ absurd (true≢false (sym h ∙ ap test same ∙ k))
-  | inr other ↦ ne_eqb b c other
-]
+isnt test b c h k = grind (arith, cases_eq)
 
 -- a plain byte is inert
 plain_inert : (b : ℕ) → is_plain b ≡ true → is_inert b ≡ true
@@ -32,8 +27,7 @@ begins_both (b ∷ bs) h = plain_inert b h
 
 isnt_white : (b : ℕ) → is_plain b ≡ true → is_white b ≡ false
 unfolding is_plain
-isnt_white b h = rw (isnt is_plain b tab h refl) (rw (isnt is_plain b line_tabulation h refl)
-    (rw (isnt is_plain b form_feed h refl) (rw (isnt is_plain b space h refl) refl)))
+isnt_white b h = grind (arith, isnt)
 
 pub plain_begins : (c : ℕ) (bs : List ℕ) → begins_plain bs ≡ true → is_plain c ≡ false → begins c bs ≡ false
 plain_begins c [] h k = refl
@@ -57,10 +51,7 @@ plain_hrule (b ∷ bs) h = rw (isnt is_plain b hyphen h refl) (rw (isnt is_plain
 pub plain_atx : (bs : List ℕ) → begins_plain bs ≡ true → atx_level bs ≡ None
 unfolding atx_level is_plain
 plain_atx [] h = absurd (true≢false (sym h))
-plain_atx (b ∷ bs) h =
-    rw (isnt is_plain b number_sign h refl)
-    (rw (isnt is_plain b line_feed h refl) (rw (isnt is_plain b carriage_return h refl)
-    (rw (isnt is_plain b space h refl) (rw (isnt is_plain b tab h refl) refl))))
+plain_atx (b ∷ bs) h = grind (arith, isnt)
 
 pub plain_fence : (bs : List ℕ) → begins_plain bs ≡ true → code_fence bs ≡ None
 unfolding code_fence is_plain
@@ -107,8 +98,7 @@ inert_quote r o h = rw o (inert_quote_byte r r.left h)
 inert_marker : (bs : List ℕ) → begins_inert bs ≡ true → list_marker bs ≡ None
 unfolding list_marker is_inert
 inert_marker [] h = absurd (true≢false (sym h))
-inert_marker (b ∷ bs) h =
-    rw (isnt is_inert b hyphen h refl) (rw (isnt is_inert b plus_sign h refl) (rw (isnt is_inert b asterisk h refl) (rw (inert_digit b h) refl)))
+inert_marker (b ∷ bs) h = grind (arith, isnt, inert_digit)
 
 pub inert_item : (n : ℕ) (r : Rest) → r.owed ≡ 0 → begins_inert r.left ≡ true → item_of n r ≡ None
 unfolding item_of
@@ -121,6 +111,4 @@ plain_listitem bs h = rw (inert_marker bs (begins_both bs h)) refl
 -- if an item's content begins with a plain byte, it begins here
 pub plain_content : (n : ℕ) (r : Rest) → r.owed ≡ 0 → begins_plain r.left ≡ true → content_indent n r ≡ (n, r)
 unfolding content_indent
-plain_content n r o h =
-    let same : n + 0 ≡ n = omega arith in
-    rw (plain_blank r.left h) (rw (plain_indent r o h) (ap (λ (k : ℕ). (k, r)) same))
+plain_content n r o h = grind (arith, plain_blank, plain_indent)

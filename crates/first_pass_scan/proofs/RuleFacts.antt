@@ -29,8 +29,7 @@ same_byte c b h e = grind (arith, nat_tests, h, e)
 
 here : (c b : ℕ) (bs : List ℕ) → in_rule c b ≡ true → (is_rule_byte c ≡ true → rule_len c (b ∷ bs) ≡ None) → hrule_len (b ∷ bs) ≡ None
 unfolding hrule_len
-here c b bs h f = cond_both (is_rule_byte b) (rule_len b (b ∷ bs)) None (λ o. o ≡ None)
-    (λ e. let same = same_byte c b h e in ap (λ x. rule_len x (b ∷ bs)) same ∙ f (ap is_rule_byte (sym same) ∙ e)) (λ _. refl)
+here c b bs h f = grind (arith, cond_both, same_byte)
 
 none_by : (c b : ℕ) (bs : List ℕ) (k : ℕ) (t : Bool)
     → in_rule c b ≡ t → (is_rule_byte c ≡ true → rule_len c (b ∷ bs) ≡ None) → k < prefix_len (in_rule c) (b ∷ bs)
@@ -38,9 +37,7 @@ none_by : (c b : ℕ) (bs : List ℕ) (k : ℕ) (t : Bool)
     → hrule_len (drop k (b ∷ bs)) ≡ None
 none_by c b bs k false h f l more = let p : prefix_len (in_rule c) (b ∷ bs) ≡ 0 = rw h in absurd (omega arith)
 none_by c b bs zero true h f l more = here c b bs h f
-none_by c b bs (suc k) true h f l more =
-    let p : prefix_len (in_rule c) (b ∷ bs) ≡ 1 + prefix_len (in_rule c) bs = rw h in
-    more k (λ r. rule-shorter c b bs h (f r)) (omega arith)
+none_by c b bs (suc k) true h f l more = grind (arith, rule-shorter)
 
 none_in : (c : ℕ) (bs : List ℕ) (k : ℕ) → (is_rule_byte c ≡ true → rule_len c bs ≡ None) → k < prefix_len (in_rule c) bs → hrule_len (drop k bs) ≡ None
 none_in c [] k f l = absurd (omega arith)
@@ -88,6 +85,4 @@ unfolding hrule_len
 none_before_plain [] h = refl
 none_before_plain (a ∷ []) h = absurd (true≢false (sym h))
 none_before_plain (a ∷ b ∷ []) h = absurd (true≢false (sym h))
-none_before_plain (a ∷ b ∷ d ∷ bs) h =
-    cond_both (is_rule_byte a) (rule_len a (a ∷ b ∷ d ∷ bs)) None (λ o. o ≡ None)
-    (λ e. rule_few a (a ∷ b ∷ d ∷ bs) (prefix_two (in_rule a) a b d bs (plain_in_rule a d e h))) (λ _. refl)
+none_before_plain (a ∷ b ∷ d ∷ bs) h = grind (arith, cond_both, rule_few, prefix_two, plain_in_rule)

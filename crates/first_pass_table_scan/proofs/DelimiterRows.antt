@@ -1,6 +1,6 @@
 -- Facts on the first byte of a delimiter row, and on its number of alignments.
-use Rattle.std.proofs.Common.{◌≡◌, subst, ℕ, zero, suc, ◌+◌, ◌-◌, ◌<◌, ◌≤◌, ◌==◌, ◌&&◌, ◌||◌, ◌⊎◌, Bool, true, false, nat_le, nat_lt, List, ◌∷◌, length, []}
-use Rattle.std.proofs.Common.{map, take, drop, Option, Some, None, refl, sym, ap, ◌∙◌, arith, inl, inr, if◌then◌else◌, take_while}
+use Rattle.std.proofs.Common.{◌≡◌, subst, ℕ, zero, suc, ◌+◌, ◌-◌, ◌<◌, ◌≤◌, ◌==◌, ◌&&◌, ◌||◌, Bool, true, false, nat_le, nat_lt, List, ◌∷◌, length, [], map}
+use Rattle.std.proofs.Common.{take, drop, Option, Some, None, refl, sym, ap, ◌∙◌, arith, inl, inr, if◌then◌else◌, take_while}
 use Rattle.std.specs.List.{prefix_len, suffix_len, position_or_len, list_any, slice_split}
 use Rattle.std.proofs.lemmas.Bool.{cases_lt, cond_both, or_parts, or_from}
 use Rattle.std.proofs.lemmas.Bool.Decides.{nat_tests}
@@ -12,48 +12,31 @@ use Rattle.first_pass_scan.specs.LeafLines.{run_len}
 use Rattle.first_pass_lines.proofs.OptionFacts.{some_if, some_mapped}
 use Rattle.first_pass_lines.specs.Rest.{Rest, indent, after_columns, columns_of}
 use Rattle.first_pass_lines.proofs.PlaceFacts.{all_columns, all_columns_up_to}
-use Rattle.first_pass_table_scan.specs.TableHead.{is_pipe, stripped, without_first, without_last, is_hyphens, alignment_by, delimiter_cell, each_of}
+use Rattle.first_pass_table_scan.specs.TableHead.{is_pipe, stripped, without_first, without_last, is_hyphens, delimiter_cell, each_of}
 use Rattle.first_pass_table_scan.specs.TableHead.{delimiter_cells, delimiter_row, delimiter_row_of}
 use Rattle.first_pass_table_scan.proofs.TableFacts.{cells-refused, cells-more, cells-last}
 
 -- the bytes are empty, or this byte is their first
 abbrev Fronted : ℕ → List ℕ → Type 0
-Fronted b bs = (bs ≡ []) ⊎ ((cs : List ℕ) × (bs ≡ b ∷ cs))
-
-take_front : (b : ℕ) (n : ℕ) (bs : List ℕ) → Fronted b (take n (b ∷ bs))
-take_front b zero bs = inl refl
-take_front b (suc n) bs = inr (take n bs, refl)
-
-take_none : (n : ℕ) → take {A = ℕ} n [] ≡ []
-take_none zero = refl
-take_none (suc n) = refl
+Fronted b [] = Unit {0}
+Fronted b (c ∷ cs) = c ≡ b
 
 fronted-take : (b n : ℕ) (bs : List ℕ) → Fronted b bs → Fronted b (take n bs)
-fronted-take b n bs f =
-    elim f as (λ _. Fronted b (take n bs)) [
-      | inl e ↦ inl (ap (take n) e ∙ take_none n)
-      | inr more ↦ subst (λ cs. Fronted b (take n cs)) (sym more.1) (take_front b n more.0)
-    ]
-
-strip_fronted : (b : ℕ) (cs : List ℕ) → is_space_or_tab b ≡ false → prefix_len is_space_or_tab (b ∷ cs) ≡ 0
-strip_fronted b cs h = ap (λ t. if t then 1 + prefix_len is_space_or_tab cs else 0) h
+fronted-take b zero bs f = tt
+fronted-take b (suc n) [] f = tt
+fronted-take b (suc n) (c ∷ cs) f = f
 
 fronted-stripped : (b : ℕ) (bs : List ℕ) → is_space_or_tab b ≡ false → Fronted b bs → Fronted b (stripped bs)
 unfolding stripped
-fronted-stripped b bs h f =
-    elim f as (λ _. Fronted b (stripped bs)) [
-      | inl e ↦ subst (λ cs. Fronted b (stripped cs)) (sym e) (inl refl)
-      | inr more ↦ subst (λ cs. Fronted b (stripped cs)) (sym more.1)
-          (subst (λ k. Fronted b (let s : List ℕ = drop k (b ∷ more.0) in take (length s - suffix_len is_space_or_tab s) s)) (sym (strip_fronted b more.0 h))
-          (take_front b (length (b ∷ more.0) - suffix_len is_space_or_tab (b ∷ more.0)) more.0))
-    ]
+fronted-stripped b [] h f = tt
+fronted-stripped b (c ∷ cs) h f =
+    let none : prefix_len is_space_or_tab (c ∷ cs) ≡ 0 = ap (λ t. if t then 1 + prefix_len is_space_or_tab cs else 0) (ap is_space_or_tab f ∙ h) in
+    subst (λ k. Fronted b (let s : List ℕ = drop k (c ∷ cs) in take (length s - suffix_len is_space_or_tab s) s)) (sym none)
+    (fronted-take b (length (c ∷ cs) - suffix_len is_space_or_tab (c ∷ cs)) (c ∷ cs) f)
 
 begins-other : (b c : ℕ) (bs : List ℕ) → (b == c) ≡ false → Fronted b bs → begins c bs ≡ false
-begins-other b c bs h f =
-    elim f as (λ _. begins c bs ≡ false) [
-      | inl e ↦ ap (begins c) e
-      | inr more ↦ ap (begins c) more.1 ∙ h
-    ]
+begins-other b c [] h f = refl
+begins-other b c (d ∷ ds) h f = ap (λ (x : ℕ). x == c) f ∙ h
 
 without_first-other : (b c : ℕ) (bs : List ℕ) → (b == c) ≡ false → Fronted b bs → without_first c bs ≡ bs
 without_first-other b c bs h f = ap (λ t. if t then drop 1 bs else bs) (begins-other b c bs h f)
@@ -62,31 +45,19 @@ last_or_not : (b : ℕ) (bs : List ℕ) (t : Bool) → Fronted b bs → Fronted 
 last_or_not b bs true f = fronted-take b (length bs - 1) bs f
 last_or_not b bs false f = f
 
-no_run : (b : ℕ) (cs : List ℕ) → (b == hyphen) ≡ false → run_len hyphen (b ∷ cs) ≡ 0
-no_run b cs h = ap (λ t. if t then 1 + run_len hyphen cs else 0) h
-
 none_of_some : (n : ℕ) → (nat_le 1 (suc n) && (0 == suc n)) ≡ false
 none_of_some n = grind (arith, nat_tests)
 
 no_hyphens : (b : ℕ) (bs : List ℕ) → (b == hyphen) ≡ false → Fronted b bs → is_hyphens bs ≡ false
-no_hyphens b bs h f =
-    elim f as (λ _. is_hyphens bs ≡ false) [
-      | inl e ↦ ap is_hyphens e
-      | inr more ↦
-          ap is_hyphens more.1 ∙ ap (λ n. nat_le 1 (length (b ∷ more.0)) && (n == length (b ∷ more.0))) (no_run b more.0 h) ∙ none_of_some (length more.0)
-    ]
+no_hyphens b [] h f = refl
+no_hyphens b (c ∷ cs) h f =
+    let no_run : run_len hyphen (c ∷ cs) ≡ 0 = ap (λ t. if t then 1 + run_len hyphen cs else 0) (ap (λ (x : ℕ). x == hyphen) f ∙ h) in
+    ap (λ n. nat_le 1 (length (c ∷ cs)) && (n == length (c ∷ cs))) no_run ∙ none_of_some (length cs)
 
 -- bytes that begin with another byte are no delimiter cell
 cell-refused : (b : ℕ) (bs : List ℕ) → is_space_or_tab b ≡ false → (b == hyphen) ≡ false → (b == colon) ≡ false → Fronted b bs → delimiter_cell bs ≡ None
 unfolding delimiter_cell
-cell-refused b bs blank h k f =
-    let cell : List ℕ = stripped bs in
-    let front : Fronted b cell = fronted-stripped b bs blank f in
-    let tail : List ℕ = without_first colon cell in
-    let same : tail ≡ cell = without_first-other b colon cell k front in
-    let tail_front : Fronted b tail = subst (Fronted b) (sym same) front in
-    let no : is_hyphens (without_last colon tail) ≡ false = no_hyphens b (without_last colon tail) h (last_or_not b tail (ends colon tail) tail_front) in
-    ap (λ t. if t then Some (alignment_by (begins colon cell) (ends colon tail)) else None) no
+cell-refused b bs blank h k f = grind (arith, fronted-stripped, without_first-other, no_hyphens, last_or_not)
 
 cells-refused-at : (b : ℕ) (bs : List ℕ) → is_space_or_tab b ≡ false → (b == hyphen) ≡ false → (b == colon) ≡ false → Fronted b bs → delimiter_cells bs ≡ None
 cells-refused-at b bs blank h k f =
@@ -109,11 +80,11 @@ row_refused b bs blank p h k f =
 -- a delimiter row without leading spaces and tabs begins with a pipe, a hyphen or a colon
 pub row-refused : (bs : List ℕ)
     → begins space bs ≡ false → begins tab bs ≡ false → (begins pipe bs || begins hyphen bs || begins colon bs) ≡ false → delimiter_row bs ≡ None
-row-refused [] no_space no_tab h = row_refused 0 [] refl refl refl refl (inl refl)
+row-refused [] no_space no_tab h = row_refused 0 [] refl refl refl refl tt
 row-refused (b ∷ bs) no_space no_tab h =
     let some = or_parts ((b == pipe) || (b == hyphen)) (b == colon) h in
     let two = or_parts (b == pipe) (b == hyphen) some.0 in
-    row_refused b (b ∷ bs) (or_from (b == tab) (b == space) no_tab no_space) two.0 two.1 some.1 (inr (bs, refl))
+    row_refused b (b ∷ bs) (or_from (b == tab) (b == space) no_tab no_space) two.0 two.1 some.1 refl
 
 -- the delimiter row after an indentation of fewer than four columns
 pub row_of-bound : (r s : Rest) → s ≡ after_columns 4 r → nat_le 4 (indent r) ≡ false → delimiter_row_of r ≡ delimiter_row s.left
@@ -149,13 +120,8 @@ cells-some bs xs h =
 
 row-some : (bs : List ℕ) (xs : List Alignment) → delimiter_row bs ≡ Some xs → 0 < length xs
 unfolding delimiter_row
-row-some bs xs h =
-    let row : List ℕ = stripped (take_while is_content bs) in
-    let cells : List ℕ = without_last pipe (without_first pipe row) in
-    cells-some cells xs (some_if (nat_le (columns_of bs 0) 3 && list_any is_pipe row) (delimiter_cells cells) xs h).1
+row-some bs xs h = grind (arith, cells-some, some_if)
 
 pub row_of-some : (r : Rest) (xs : List Alignment) → delimiter_row_of r ≡ Some xs → 0 < length xs
 unfolding delimiter_row_of
-row_of-some r xs h =
-    let row : List ℕ = (after_columns (indent r) r).left in
-    row-some row xs (some_if (nat_lt (indent r) 4) (delimiter_row row) xs h).1
+row_of-some r xs h = grind (arith, row-some, some_if)

@@ -32,8 +32,7 @@ ending-cases at found t (Some k) = omega arith
 
 pub ending-at : (row : List ℕ) (i found b x : ℕ) → i < length row → get_or row i 0 ≡ x
     → end_past i found b (drop i row) ≡ end_past (i + 1) (if is_pipe x && not (b == backslash) then i + 1 else found) x (drop (i + 1) row)
-ending-at row i found b x l e =
-    ap (end_past i found b) (at_byte row i x l e) ∙ ending-cases i found (is_pipe x && not (b == backslash)) (last_pipe_after x (drop (i + 1) row))
+ending-at row i found b x l e = grind (arith, at_byte, ending-cases)
 
 -- the last pipe is this one or a later one
 last-cases : (t : Bool) (o : Option ℕ) (n : ℕ)
@@ -59,26 +58,24 @@ pipes-none b (c ∷ cs) h =
     let no = ap counted_by parts.1 in
     omega arith
 
--- If there is a last pipe, it is one of the bytes, and there is at least one pipe.
-last-facts : (b : ℕ) (bs : List ℕ) (n : ℕ) → last_pipe_after b bs ≡ Some n → (1 ≤ pipes_after b bs) × (n < length bs)
+-- If there is a last pipe, it is one of the bytes, there is at least one pipe, and none follows the last one.
+pub last-facts : (b : ℕ) (bs : List ℕ) (n : ℕ) → last_pipe_after b bs ≡ Some n
+    → (1 ≤ pipes_after b bs) × (n < length bs) × (pipes_after b (take (n + 1) bs) ≡ pipes_after b bs)
 last-facts b [] n h = absurd cc
 last-facts b (c ∷ cs) n h =
-    elim (last-cases (is_pipe c && not (b == backslash)) (last_pipe_after c cs) n h) as (λ _. (1 ≤ pipes_after b (c ∷ cs)) × (n < length (c ∷ cs))) [
-      | inl here ↦ (let one = ap counted_by here.1 in let at = here.2 in (omega arith, omega arith))
-      | inr more ↦ (let at = more.2 in let rest = last-facts c cs more.0 more.1 in (omega arith, omega arith))
-    ]
-
--- no pipe follows the last one
-pub pipes-to-last : (b : ℕ) (bs : List ℕ) (n : ℕ) → last_pipe_after b bs ≡ Some n → pipes_after b (take (n + 1) bs) ≡ pipes_after b bs
-pipes-to-last b [] n h = absurd cc
-pipes-to-last b (c ∷ cs) n h =
     let t : Bool = is_pipe c && not (b == backslash) in
-    elim (last-cases t (last_pipe_after c cs) n h) as (λ _. pipes_after b (take (n + 1) (c ∷ cs)) ≡ pipes_after b (c ∷ cs)) [
-      | inl here ↦ ap (λ k. pipes_after b (take (k + 1) (c ∷ cs))) here.2 ∙ ap (λ k. (if t then 1 else 0) + k) (sym (pipes-none c cs here.0))
-      | inr more ↦ (
+    elim (last-cases t (last_pipe_after c cs) n h)
+    as (λ _. (1 ≤ pipes_after b (c ∷ cs)) × (n < length (c ∷ cs)) × (pipes_after b (take (n + 1) (c ∷ cs)) ≡ pipes_after b (c ∷ cs))) [
+      | inl here ↦
+          let one = ap counted_by here.1 in
+          let at = here.2 in
+          let none = ap (λ k. (if t then 1 else 0) + k) (sym (pipes-none c cs here.0)) in
+          (omega arith, omega arith, ap (λ k. pipes_after b (take (k + 1) (c ∷ cs))) at ∙ none)
+      | inr more ↦
           let at = more.2 in
+          let rest = last-facts c cs more.0 more.1 in
           let e : n + 1 ≡ suc (more.0 + 1) = omega arith in
-          ap (λ k. pipes_after b (take k (c ∷ cs))) e ∙ ap (λ k. (if t then 1 else 0) + k) (pipes-to-last c cs more.0 more.1))
+          (omega arith, omega arith, ap (λ k. pipes_after b (take k (c ∷ cs))) e ∙ ap (λ k. (if t then 1 else 0) + k) rest.2)
     ]
 
 -- the byte before a place of a row; 0 at its start
@@ -90,10 +87,7 @@ backslash_if true b = refl
 backslash_if false b = refl
 
 pub byte_past : (row : List ℕ) (at : ℕ) → byte_before row (at + 1) ≡ get_or row at 0
-byte_past row at =
-    let here : at + 1 - 1 ≡ at = omega arith in
-    let some : nat_lt 0 (at + 1) ≡ true = grind (arith, nat_tests) in
-    ap (λ t. if t then slice_index row (at + 1 - 1) else 0) some ∙ ap (slice_index row) here
+byte_past row at = grind (arith, nat_tests)
 
 -- The bytes of a row before an offset are counted: their pipes, and the offset after the last pipe.
 pub record IsCounted (row : List ℕ) (at pipes end : ℕ) : Type 0 where
@@ -114,32 +108,14 @@ count_if t n = grind arith
 -- a row with one more byte, which is a pipe that counts, or not
 pub step : (row : List ℕ) (i pipes end : ℕ) (t : Bool) → i < length row → is_open_at row i ≡ t → IsCounted row i pipes end
     → IsCounted row (i + 1) (if t then pipes + 1 else pipes) (if t then i + 1 else end)
-step row i pipes end t l is old =
-    let x : ℕ = get_or row i 0 in
-    let b : ℕ = byte_before row i in
-    let one = count_if t pipes ∙ ap (λ u. pipes + (if u then 1 else 0)) (sym is) in
-    let counted = pipes-at row i b x l refl in
-    let past = byte_past row i in
-    let left = ap (λ (y : ℕ). pipes_after y (drop (i + 1) row)) past in
-    record {
-      pipes_left = omega (arith, old.pipes_left);
-      ending = ap (λ (y : ℕ). end_past (i + 1) (if t then i + 1 else end) y (drop (i + 1) row)) past
-          ∙ sym (ap (λ u. end_past (i + 1) (if u then i + 1 else end) x (drop (i + 1) row)) is) ∙ sym (ending-at row i end b x l refl) ∙ old.ending;
-    }
+step row i pipes end t l is old = grind (arith, count_if, pipes-at, byte_past, ending-at)
 
 pub pipes-first : (row : List ℕ) (i : ℕ) → i < length row → is_open_at row i ≡ true → 1 ≤ pipes_after (byte_before row i) (drop i row)
-pipes-first row i l t =
-    let y : ℕ = get_or row i 0 in
-    let b : ℕ = byte_before row i in
-    let one = ap counted_by t in
-    let counted = pipes-at row i b y l refl in
-    omega arith
+pipes-first row i l t = grind (arith, pipes-at)
 
 -- the end of the row
 pub pipes-end : (row : List ℕ) (i b pipes : ℕ) → length row ≤ i → pipes + pipes_after b (drop i row) ≡ pipes_after 0 row → pipes ≡ pipes_of row
-pipes-end row i b pipes l h =
-    let none : pipes_after b (drop i row) ≡ 0 = ap (pipes_after b) (drop_all i row l) in
-    omega arith
+pipes-end row i b pipes l h = grind (arith, drop_all)
 
 from_start : (o : Option ℕ) → option_map_or (λ last. 0 + last + 1) o 0 ≡ option_map_or (λ last. last + 1) o 0
 from_start None = refl
@@ -180,10 +156,7 @@ pub head-unpiped : (bs : List ℕ) → list_any is_pipe (take_while is_content b
 head-unpiped bs h = head-none bs (last-unpiped 0 (take_while is_content bs) h)
 
 pub last-in-line : (bs : List ℕ) (n : ℕ) → last_pipe_after 0 (take_while is_content bs) ≡ Some n → n < prefix_len is_content bs
-last-in-line bs n h =
-    let long = length-prefix_len is_content bs in
-    let within = (last-facts 0 (take_while is_content bs) n h).1 in
-    omega arith
+last-in-line bs n h = omega (arith, length-prefix_len is_content bs, (last-facts 0 (take_while is_content bs) n h).1)
 
 -- the pipes of a line are those up to its last one
 pub pipes-of-line : (bs : List ℕ) (n : ℕ)
@@ -191,7 +164,7 @@ pub pipes-of-line : (bs : List ℕ) (n : ℕ)
 pipes-of-line bs n h =
     let within = last-in-line bs n h in
     let bound : n + 1 ≤ prefix_len is_content bs = omega arith in
-    ap (pipes_after 0) (sym (take-take (n + 1) (prefix_len is_content bs) bs bound)) ∙ pipes-to-last 0 (take_while is_content bs) n h
+    ap (pipes_after 0) (sym (take-take (n + 1) (prefix_len is_content bs) bs bound)) ∙ (last-facts 0 (take_while is_content bs) n h).2
 
 -- the number of columns of a line, from its pipes
 pub head-by-pipes : (bs : List ℕ) (n : ℕ)
@@ -204,26 +177,3 @@ no_last bs (Some n) e h = let one = (last-facts 0 bs n e).0 in absurd (omega ari
 
 pub head-without-pipes : (bs : List ℕ) → pipes_of (take_while is_content bs) ≡ 0 → head_columns bs ≡ 0
 head-without-pipes bs h = head-none bs (no_last (take_while is_content bs) (last_pipe_after 0 (take_while is_content bs)) refl h)
-
--- a line whose pipes were counted
-pub head-escaped : (bs row : List ℕ) (end : ℕ)
-    → row ≡ take_while is_content bs → end ≡ option_map_or (λ last. last + 1) (last_pipe_after 0 row) 0 → end ≡ 0 → 0 ≡ head_columns bs
-head-escaped bs row end e at none = sym (head-none bs (ap (last_pipe_after 0) (sym e) ∙ end-none (last_pipe_after 0 row) end at none))
-
--- the last pipe of such a line, from the offset after it
-pub last-found : (bs row : List ℕ) (end : ℕ) → row ≡ take_while is_content bs → end ≡ option_map_or (λ last. last + 1) (last_pipe_after 0 row) 0 → ¬ (end ≡ 0)
-    → last_pipe_after 0 (take_while is_content bs) ≡ Some (end - 1)
-last-found bs row end e at some = ap (last_pipe_after 0) (sym e) ∙ end-some (last_pipe_after 0 row) end at some
-
-pub counted-some : (bs row : List ℕ) (pipes last : ℕ)
-    → row ≡ take_while is_content bs → pipes ≡ pipes_of row → last_pipe_after 0 (take_while is_content bs) ≡ Some last → 1 ≤ pipes
-counted-some bs row pipes last e p h =
-    let some = (last-facts 0 (take_while is_content bs) last h).0 in
-    let same : pipes_of row ≡ pipes_of (take_while is_content bs) = ap (pipes_after 0) e in
-    omega arith
-
-pub counted-to-last : (bs row : List ℕ) (pipes last : ℕ) → row ≡ take_while is_content bs → pipes ≡ pipes_of row
-    → last_pipe_after 0 (take_while is_content bs) ≡ Some last → pipes ≡ pipes_of (take (last - 0 + 1) bs)
-counted-to-last bs row pipes last e p h =
-    let here : last + 1 ≡ last - 0 + 1 = omega arith in
-    p ∙ ap (pipes_after 0) e ∙ sym (pipes-of-line bs last h) ∙ ap (λ k. pipes_of (take k bs)) here

@@ -30,9 +30,7 @@ pipe_found bs (Some at) h =
 
 -- the first cell and the others
 split_more : (bs : List ℕ) (n : ℕ) → n ≡ position_or_len is_pipe bs → n < length bs → slice_split is_pipe bs ≡ take n bs ∷ slice_split is_pipe (drop (n + 1) bs)
-split_more bs n e l =
-    let w : position_or_len is_pipe bs < length bs = omega arith in
-    rw e (slice_split_first is_pipe bs 0 w)
+split_more bs n e l = grind (arith, slice_split_first)
 
 split_last : (bs : List ℕ) (n : ℕ) → n ≡ position_or_len is_pipe bs → n ≡ length bs → slice_split is_pipe bs ≡ take n bs ∷ []
 split_last bs n e l =
@@ -42,8 +40,7 @@ split_last bs n e l =
 pub cells-more : (bs : List ℕ) (n : ℕ) (o : Option Alignment) → n ≡ position_or_len is_pipe bs → n < length bs → o ≡ delimiter_cell (take n bs)
     → delimiter_cells bs ≡ each_of (o ∷ map delimiter_cell (slice_split is_pipe (drop (n + 1) bs)))
 unfolding delimiter_cells
-cells-more bs n o e l h = ap (λ parts. each_of (map delimiter_cell parts)) (split_more bs n e l)
-    ∙ ap (λ p. each_of (p ∷ map delimiter_cell (slice_split is_pipe (drop (n + 1) bs)))) (sym h)
+cells-more bs n o e l h = grind (arith, split_more)
 
 pub cells-last : (bs : List ℕ) (n : ℕ) (o : Option Alignment)
     → n ≡ position_or_len is_pipe bs → n ≡ length bs → o ≡ delimiter_cell (take n bs) → delimiter_cells bs ≡ each_of (o ∷ [])

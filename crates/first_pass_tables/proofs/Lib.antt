@@ -1,6 +1,5 @@
 -- The lemmas of this crate.
 pub mod CellsFit
-pub mod DropLemmas
 pub mod RowPlaces
 pub mod BodySoFar
 pub mod BodyLemmas

@@ -1,11 +1,12 @@
 -- A row is opened, its cells and the inserted ones are added, and it is closed, or dropped again.
 use Rattle.std.proofs.Common.{◌≡◌, ℕ, ◌+◌, ◌-◌, true, zero, suc, List, [], ◌∷◌, ◌++◌, length, take, replicate, Option, Some, None, is_some, IsSome}
-use Rattle.std.proofs.Common.{MatchOption, slice_get, refl, sym, ap, subst, ◌∙◌, append_assoc, length-append, option_map}
-use Rattle.first_pass_grammar.proofs.Common.{Item, ItemBody, TableRow, TreeIndex, Forest, at_depth, added, popped, at_depth-append, chained, leaves}
-use Rattle.first_pass_grammar.proofs.Common.{chained-spine, chained-nodes, Spot, spot, Document, cell_block, AreCells, inserted, side_by_side, row_cells}
-use Rattle.first_pass_grammar.proofs.Common.{row_block, FoundRow, most_inserted}
-use Rattle.first_pass_tree.proofs.Blocks.{BlockCalls, block-built}
-use Rattle.first_pass_open.specs.OpenBlock.{IsJustPushed, opened_block, begun_item, closed_by}
+use Rattle.std.proofs.Common.{MatchOption, slice_get, refl, sym, ap, subst, ◌∙◌, append_assoc, option_map}
+use Rattle.first_pass_grammar.proofs.Common.{Item, ItemBody, TableRow, TreeIndex, Forest, at_depth, added, popped, chained, leaves, chained-spine}
+use Rattle.first_pass_grammar.proofs.Common.{chained-nodes, Spot, spot, Document, cell_block, AreCells, inserted, side_by_side, row_cells, row_block}
+use Rattle.first_pass_grammar.proofs.Common.{FoundRow, most_inserted}
+use Rattle.first_pass_tree.proofs.Blocks.{block-built}
+use Rattle.first_pass_tree.proofs.Callers.{more-added}
+use Rattle.first_pass_open.specs.OpenBlock.{opened_block, begun_item, closed_by}
 use Rattle.first_pass_tables.specs.Appends.{AppendsCells, empty_cell, keeps_row, OpenTable, AddsRow, ReadsRow}
 use Rattle.first_pass_tables.proofs.RowCells.{side_more}
 use Rattle.first_pass_tables.proofs.RowDrops.{HasMore}
@@ -13,17 +14,6 @@ use Rattle.first_pass_tables.proofs.RowDrops.{HasMore}
 -- the place of the row
 abbrev pub row_place : Forest Item → TreeIndex
 row_place old = record { 0 = length old.nodes }
-
--- the row was just opened
-pub row_opened : (old opened : Forest Item) (start : ℕ) (body : ItemBody) → opened ≡ opened_block old start body → IsJustPushed opened (row_place old)
-row_opened old opened start body is =
-    let x = begun_item start body in
-    record {
-      rest = old.spine;
-      innermost = ap (λ (f : Forest Item). f.spine) is;
-      last = sym (length-append old.nodes ((length old.spine + 1, x) ∷ [])) ∙ sym (ap (λ (f : Forest Item). length f.nodes) is);
-      none = ap (λ (f : Forest Item). f.current) is;
-    }
 
 -- empty cells are blocks of their own
 empty_blocks : (n «end» : ℕ) → leaves (replicate n (empty_cell «end»)) ≡ side_by_side (replicate n (cell_block «end» «end» []))
@@ -55,28 +45,23 @@ module _ {d : Document} {columns : ℕ} {start : Spot} {body : ItemBody} {old : 
 
   nodes_are : full.nodes ≡ o.opened.nodes ++ at_depth (length o.opened.spine + 1) (row_cells columns o.adds.cells o.stop.at)
   nodes_are =
-      let depth = length o.opened.spine + 1 in
-      let first = side_by_side (take columns o.adds.cells) in
+      let first = take columns o.adds.cells in
       let empty = replicate missing (empty_cell o.stop.at) in
+      let blocks : ℕ → List (List (ℕ × Item)) = λ (n : ℕ). replicate n (cell_block o.stop.at o.stop.at []) in
+      let cells : side_by_side first ++ leaves empty ≡ row_cells columns o.adds.cells o.stop.at =
+      ap (λ (items : List (ℕ × Item)). side_by_side first ++ items) (empty_blocks missing o.stop.at) ∙ sym (side_more first (blocks missing))
+      ∙ ap (λ (n : ℕ). side_by_side (first ++ blocks n)) missing_are in
       ap (λ (f : Forest Item). f.nodes) full_is ∙ chained-nodes o.read empty
-      ∙ ap (λ (s : List TreeIndex). o.read.nodes ++ at_depth (length s + 1) (leaves empty)) o.adds.spine
-      ∙ ap (λ (ns : List (ℕ × Item)). ns ++ at_depth depth (leaves empty)) o.adds.nodes
-      ∙ append_assoc o.opened.nodes (at_depth depth first) (at_depth depth (leaves empty))
-      ∙ ap (λ (ns : List (ℕ × Item)). o.opened.nodes ++ ns) (sym (at_depth-append depth first (leaves empty)))
-      ∙ ap (λ (items : List (ℕ × Item)). o.opened.nodes ++ at_depth depth (first ++ items)) (empty_blocks missing o.stop.at)
-      ∙ ap (λ (items : List (ℕ × Item)). o.opened.nodes ++ at_depth depth items)
-      (sym (side_more (take columns o.adds.cells) (replicate missing (cell_block o.stop.at o.stop.at []))))
-      ∙ ap (λ (n : ℕ). o.opened.nodes
-      ++ at_depth depth (side_by_side (take columns o.adds.cells ++ replicate n (cell_block o.stop.at o.stop.at [])))) missing_are
+      ∙ more-added o.opened o.read (added o.read (leaves empty)) (side_by_side first) (leaves empty) o.adds.nodes o.adds.spine refl
+      ∙ ap (λ (items : List (ℕ × Item)). o.opened.nodes ++ at_depth (length o.opened.spine + 1) items) cells
 
   -- the row is closed at its end
   pub row_closed : (new : Forest Item) → new ≡ closed_by full o.stop.at full.spine → new ≡ added old (row_block body columns start.at o.adds.cells o.stop.at)
   row_closed new new_is =
-      let x = begun_item start.at body in
       let place = row_place old in
       let cells = row_cells columns o.adds.cells o.stop.at in
-      let closed = popped full place old.spine in
-      let calls : BlockCalls old x cells place closed = record {
+      new_is ∙ ap (closed_by full o.stop.at) spine_of_row
+      ∙ block-built old (begun_item start.at body) (λ (y : Item). record y { «end» = o.stop.at }) cells place (popped full place old.spine) (record {
         opened = o.opened;
         filled = full;
         at = refl;
@@ -85,18 +70,17 @@ module _ {d : Document} {columns : ℕ} {start : Spot} {body : ItemBody} {old : 
         spine = spine_is;
         around = spine_of_row;
         closed_is = refl;
-      } in
-      new_is ∙ ap (closed_by full o.stop.at) spine_of_row ∙ block-built old x (λ (y : Item). record y { «end» = o.stop.at }) cells place closed calls
+      })
 
 -- the row is closed, and about to be dropped
 pub row_after : {d : Document} {columns : ℕ} {start : Spot} {body : ItemBody} {old : Forest Item} (o : OpenRow d columns start body old) (back : Forest Item)
     (r : Option TreeIndex)
     → MatchOption r ((o.read.spine ≡ []) × (back ≡ o.read)) (λ ix. (o.read.spine ≡ ix ∷ back.spine) × (back ≡ popped o.read ix back.spine)) → HasMore old back
-row_after {d} {columns} {start} {body} {old} o back None h =
+row_after o back None h =
     let row_open = o.adds.spine ∙ ap (λ (f : Forest Item). f.spine) o.opened_is in
     let none = h.0 in
     cc
-row_after {d} {columns} {start} {body} {old} o back (Some ix) h =
+row_after {columns = columns} {start} {body} {old} o back (Some ix) h =
     let row_open = o.adds.spine ∙ ap (λ (f : Forest Item). f.spine) o.opened_is in
     let popped_is = h.0 in
     let x = begun_item start.at body in
@@ -110,15 +94,14 @@ row_after {d} {columns} {start} {body} {old} o back (Some ix) h =
     }
 
 -- the row is read
-pub row_read : (d : Document) (columns : ℕ) (row : FoundRow) (old new : OpenTable) (answer : Option (ℕ × TreeIndex))
-    → AreCells d (spot row.start old.braces) row.cells (spot row.row_end row.after) → new.braces ≡ row.after
+pub row_read : {d : Document} {columns : ℕ} (row : FoundRow) {old new : OpenTable} {answer : Option (ℕ × TreeIndex)}
+    → AreCells d (spot row.start old.braces) row.cells (spot row.row_end row.after)
     → keeps_row (is_some old.tree.current) columns (most_inserted - old.inserted_so_far) row.cells ≡ true
     → new.tree ≡ added old.tree (row_block TableRow columns row.start row.cells row.row_end)
-    → new.inserted_so_far ≡ old.inserted_so_far + inserted columns row.cells → answer ≡ option_map (λ (ix : TreeIndex). (row.row_end, ix)) new.tree.current
-    → ReadsRow d columns row.start old new answer
-row_read d columns row old new answer are braces_is kept new_is after_is answer_is =
-    let here : new.tree.current ≡ Some (row_place old.tree) = ap (λ (f : Forest Item). f.current) new_is in
-    let is : answer ≡ Some (row.row_end, row_place old.tree) = answer_is ∙ ap (option_map (λ (ix : TreeIndex). (row.row_end, ix))) here in
+    → new.inserted_so_far ≡ old.inserted_so_far + inserted columns row.cells → new.braces ≡ row.after
+    → answer ≡ option_map (λ (ix : TreeIndex). (row.row_end, ix)) new.tree.current → ReadsRow d columns row.start old new answer
+row_read {columns = columns} row {old} {new} are kept new_is after_is braces_is answer_is =
+    let is = answer_is ∙ ap (λ (f : Forest Item). option_map (λ (ix : TreeIndex). (row.row_end, ix)) f.current) new_is in
     record {
       cells = row.cells;
       row_end = row.row_end;

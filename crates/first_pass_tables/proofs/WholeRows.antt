@@ -43,10 +43,10 @@ rows_no_table depth [] = tt
 rows_no_table depth (row ∷ rows) = cells_no_table (suc depth) row.starts (row_marks depth rows) (rows_no_table depth rows)
 
 -- the header row and the rows after it
-pub added_whole : (d : Document) (columns head_start body_start : ℕ) (old new : Forest Item) (next : ℕ)
+pub added_whole : {d : Document} {columns head_start body_start : ℕ} {old new : Forest Item} {next : ℕ}
     → AppendsRows d columns head_start body_start old new next → AddsWholeRows d columns head_start old new next
 unfolding row_marks inserted_in HaveCells
-added_whole d columns head_start body_start old new next r =
+added_whole {d} {columns} {head_start} {body_start} {old} {next = next} r =
     let head : List (ℕ × Item) = row_block TableHead columns head_start r.cells r.head_end in
     let begin : Spot = spot head_start no_braces in
     let stop : Spot = spot r.head_end r.after in

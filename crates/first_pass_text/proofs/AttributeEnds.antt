@@ -1,13 +1,12 @@
 -- The attribute block at the end of a heading's text.
-use Rattle.std.proofs.Common.{◌≡◌, ℕ, ◌+◌, ◌-◌, ◌≤◌, ◌<◌, ◌==◌, ◌&&◌, nat_lt, Bool, true, false, List, ◌∷◌, ◌++◌, length, take, drop, get_or, []}
-use Rattle.std.proofs.Common.{slice_index, Option, Some, None, is_some, min, IsUtf8, IsCharBoundary, refl, sym, ap, subst, ◌∙◌, arith, length-append}
-use Rattle.std.proofs.Common.{length-drop, length-take, length-take-le, get_or-drop, if◌then◌else◌, slice_range, option_map, take-take, get_or-take}
-use Rattle.std.proofs.Common.{drop-drop}
+use Rattle.std.proofs.Common.{◌≡◌, ℕ, ◌+◌, ◌-◌, ◌≤◌, ◌<◌, Bool, true, false, List, ◌∷◌, ◌++◌, length, take, drop, get_or, [], slice_index}
+use Rattle.std.proofs.Common.{Option, Some, None, is_some, min, IsUtf8, IsCharBoundary, refl, sym, ap, subst, ◌∙◌, arith, length-append, length-drop}
+use Rattle.std.proofs.Common.{length-take, length-take-le, get_or-drop, if◌then◌else◌, slice_range, option_map, take-take, get_or-take, drop-drop}
 use Rattle.first_pass_grammar.proofs.Common.{suffix_len, option_map_or, cond_both, suffix_len-le-length, none-some, same_Some, IsCharBoundary-after_ascii}
 use Rattle.first_pass_grammar.proofs.Common.{has, left_brace, right_brace, Options, none_is, none_mapped, some_if, some_mapped, Braces, attribute_block}
 use Rattle.first_pass_grammar.proofs.Common.{attributes_of, Names, NamesAttributes, HeadingIndex, heading_attribute_block, heading_attributes_of}
-use Rattle.first_pass_grammar.proofs.Common.{before_attributes, chain_end, chain_bytes, kept_before, Item, is_white, cut, chained, Text, Forest, appended}
-use Rattle.first_pass_grammar.proofs.Common.{item_at, open_place, cut_item, cut_tokens, cut_siblings, is_escaped, TreeIndex}
+use Rattle.first_pass_grammar.proofs.Common.{before_attributes, chain_end, chain_bytes, kept_before, Item, is_white, cut, chained, Forest, appended}
+use Rattle.first_pass_grammar.proofs.Common.{item_at, open_place, cut_tokens, cut_siblings, TreeIndex}
 use Rattle.std.proofs.lemmas.Slice.{between_is}
 use Rattle.std.proofs.lemmas.List.{take_min}
 use Rattle.first_pass_items.specs.OptionWords.{heading_attributes}
@@ -66,15 +65,12 @@ length_by bs None e = refl
 length_by bs (Some block) e = let in_text = block-within bs block e in sym (length-take-le block.opening bs (omega (arith, in_text.0, in_text.1)))
 
 pub length_before : (options : Options) (bs : List ℕ) → has options heading_attributes ≡ true → length_before_block bs ≡ length (before_attributes options bs)
-length_before options bs h =
-    length_by bs (attribute_block bs) refl
-    ∙ sym (ap (λ (o : Option Braces). length (option_map_or (λ (block : Braces). take block.opening bs) o bs)) (these_braces options bs h))
+length_before options bs h = grind (arith, length_by, these_braces)
 
 -- the end of the content of a heading's text, if the text has another name
 pub content_before : (options : Options) (text bytes : List ℕ) (start to n : ℕ) → has options heading_attributes ≡ true → bytes ≡ text
     → n ≡ length_before_block (slice_range bytes start to) → start + n ≡ start + length (before_attributes options (slice_range text start to))
-content_before options text bytes start to n on same is =
-    ap (λ k. start + k) (is ∙ ap (λ (xs : List ℕ). length_before_block (slice_range xs start to)) same ∙ length_before options (slice_range text start to) on)
+content_before options text bytes start to n on same is = grind (arith, length_before)
 
 pub given_not : (options : Options) (bs : List ℕ) → has options heading_attributes ≡ true → None ≡ inside_block bs → heading_attributes_of options bs ≡ None
 given_not options bs h e = given_none options bs (these_braces options bs h ∙ none_mapped between_braces (attribute_block bs) e)
@@ -84,16 +80,7 @@ pub given_some : (options : Options) (text : List ℕ) (start to : ℕ) (block :
     → has options heading_attributes ≡ true → to ≤ length text → Some r ≡ inside_block (slice_range text start to)
     → block ≡ slice_range text (start + r.0) (start + r.1)
     → heading_attributes_of options (slice_range text start to) ≡ Some (attributes_of block)
-given_some options text start to block r h within e block_is =
-    let bs : List ℕ = slice_range text start to in
-    let (braces, found_is, between) = some_mapped between_braces (attribute_block bs) r (sym e) in
-    let inside = block-within bs braces found_is in
-    let long : length bs ≡ to - start = length_between text start to within in
-    let same : slice_range bs (braces.opening + 1) braces.closing ≡ block =
-    ap (λ (p : ℕ × ℕ). slice_range bs p.0 p.1) between
-    ∙ between_both text start to r.0 r.1 (omega (arith, inside.1, ap (λ (p : ℕ × ℕ). p.1) between)) ∙ sym block_is in
-    ap (option_map (λ (b : Braces). attributes_of (slice_range bs (b.opening + 1) b.closing))) (these_braces options bs h ∙ found_is)
-    ∙ ap (λ xs. Some (attributes_of xs)) same
+given_some options text start to block r h within e block_is = grind (arith, some_mapped, block-within, length_between, between_both, these_braces)
 
 -- the offset after the opening brace is a character boundary
 pub brace_boundary : (text bs : List ℕ) (start to opening at : ℕ)
@@ -122,13 +109,11 @@ some_block None h = cc
 pub block_named : (options : Options) (bs : List ℕ) (names : Names) (index : Option HeadingIndex)
     → NamesAttributes names index (heading_attributes_of options bs) → is_some index ≡ true
     → (block : Braces) × (heading_attribute_block options bs ≡ Some block)
-block_named options bs names index e some =
-    some_block (heading_attribute_block options bs) (sym (named_by bs names index (heading_attribute_block options bs) e) ∙ some)
+block_named options bs names index e some = grind (arith, some_block, named_by)
 
 pub none_named : (options : Options) (bs : List ℕ) (names : Names) (index : Option HeadingIndex)
     → NamesAttributes names index (heading_attributes_of options bs) → is_some index ≡ false → heading_attribute_block options bs ≡ None
-none_named options bs names index e none =
-    none_is (heading_attribute_block options bs) (sym (named_by bs names index (heading_attribute_block options bs) e) ∙ none)
+none_named options bs names index e none = grind (arith, none_is, named_by)
 
 -- the end of the content before a block
 pub length_some : (options : Options) (bs : List ℕ) (block : Braces)
@@ -170,18 +155,7 @@ pub cut_end : (text : List ℕ) (options : Options) (start last : ℕ) (broken :
     → content_end ≡ start + length (before_attributes options (slice_range text start last))
     → white ≡ (if broken then 0 else suffix_len is_white (slice_range text start content_end))
     → start + kept_before broken block.opening (slice_range text start last) ≡ content_end - white
-cut_end text options start last broken block content_end white h e g =
-    let bs : List ℕ = slice_range text start last in
-    let ends : content_end ≡ start + block.opening = e ∙ ap (λ n. start + n) (length_some options bs block h) in
-    let content_is : slice_range text start content_end ≡ take block.opening bs =
-    content_read options text start (last - start) content_end e ∙ ap (λ (o : Option Braces). option_map_or (λ (b : Braces). take b.opening bs) o bs) h in
-    (elim broken as (λ t. white ≡ (if t then 0 else suffix_len is_white (slice_range text start content_end))
-    → start + (if t then block.opening else block.opening - suffix_len is_white (take block.opening bs)) ≡ content_end - white) [
-      | true ↦ λ none. omega arith
-      | false ↦ λ some.
-          let same : white ≡ suffix_len is_white (take block.opening bs) = some ∙ ap (suffix_len is_white) content_is in
-          omega (arith, suffix_len-le-length is_white (take block.opening bs), length-take block.opening bs)
-    ]) g
+cut_end text options start last broken block content_end white h e g = grind (arith, length_some, content_read, suffix_len-le-length)
 
 -- A chain is cut off there.
 pub cut_by : (text : List ℕ) (options : Options) (start : ℕ) (broken : Bool) (chain : List Item) (block : Braces) (content_end white : ℕ)
@@ -189,16 +163,12 @@ pub cut_by : (text : List ℕ) (options : Options) (start : ℕ) (broken : Bool)
     → content_end ≡ start + length (before_attributes options (chain_bytes text start chain))
     → white ≡ (if broken then 0 else suffix_len is_white (slice_range text start content_end))
     → cut_chain text options start broken chain ≡ cut (content_end - white) chain
-cut_by text options start broken chain block content_end white h e g =
-    ap (λ (o : Option Braces). option_map_or
-    (λ (b : Braces). cut (start + kept_before broken b.opening (chain_bytes text start chain)) chain) o chain) h
-    ∙ ap (λ n. cut n chain) (cut_end text options start (chain_end start chain) broken block content_end white h e g)
+cut_by text options start broken chain block content_end white h e g = grind (arith, cut_end)
 
 pub cut_none : (text : List ℕ) (options : Options) (start : ℕ) (broken : Bool) (chain : List Item)
     → heading_attribute_block options (chain_bytes text start chain) ≡ None
     → cut_chain text options start broken chain ≡ chain
-cut_none text options start broken chain h =
-    ap (λ (o : Option Braces). option_map_or (λ (b : Braces). cut (start + kept_before broken b.opening (chain_bytes text start chain)) chain) o chain) h
+cut_none text options start broken chain h = grind arith
 
 -- the current node is the last of a chain
 abbrev IsCurrent : Forest Item → Item → Type 0
@@ -236,17 +206,11 @@ opens_with options bs block e =
 -- cut tokens are no more than before, whatever is left of each
 fewer_by : (t u v : Bool) (n m k : ℕ × Item) (cs ns : List (ℕ × Item)) → length cs ≤ length ns
     → length (if t then n ∷ cs else (if u then m ∷ cs else (if v then k ∷ [] else []))) ≤ length (n ∷ ns)
-fewer_by true u v n m k cs ns h = omega arith
-fewer_by false true v n m k cs ns h = omega arith
-fewer_by false false true n m k cs ns h = omega arith
-fewer_by false false false n m k cs ns h = omega arith
+fewer_by t u v n m k cs ns h = grind (arith, h)
 
 cut_fewer : (e d : ℕ) (nodes : List (ℕ × Item)) → length (cut_tokens e d nodes) ≤ length nodes
 cut_fewer e d [] = omega arith
-cut_fewer e d (n ∷ ns) =
-    fewer_by (nat_lt d n.0) (nat_lt n.1.start e) (is_escaped n.1.body && (n.1.start == e)) n (n.0, cut_item e n.1)
-    (n.0, record { start = e - 1; «end» = e; body = Text false })
-    (cut_tokens e d ns) ns (cut_fewer e d ns)
+cut_fewer e d (n ∷ ns) = grind (arith, fewer_by, cut_fewer e d ns)
 
 -- a tree whose innermost open node's children are cut has no more nodes than before
 pub siblings_fewer : (f : Forest Item) (e : ℕ) → length (cut_siblings f e).nodes ≤ length f.nodes

@@ -3,12 +3,12 @@ use Rattle.std.proofs.Common.{◌≡◌, ℕ, ◌+◌, ◌-◌, ◌≤◌, ◌==
 use Rattle.std.proofs.Common.{inr, IfSome, length-drop, length-take, length-take-le, ap, subst, ◌∙◌, arith, true≢false, slice_range, drop-drop, option_map}
 use Rattle.std.proofs.Common.{unwrap_or}
 use Rattle.first_pass_grammar.proofs.Common.{cases_lt, nat_tests, prefix_len, prefix_len-le-length, prefix_len_passes, prefix_len_stops, Item, HeadingLevel}
-use Rattle.first_pass_grammar.proofs.Common.{TreeIndex, Forest, open_place, cut_siblings, is_content, is_white, line_len, level_number, atx_level}
-use Rattle.first_pass_grammar.proofs.Common.{line_place, atx_level-signs, bytes_line_end, add_tokens, close_break, cut, Inline, text_upto, chained}
-use Rattle.first_pass_grammar.proofs.Common.{AppendsLine, with_tokens-chained, joins_none-fresh, chained-spine, heading_attribute_block, before_attributes}
+use Rattle.first_pass_grammar.proofs.Common.{TreeIndex, Forest, open_place, cut_siblings, is_content, is_white, line_len, level_number, atx_level, line_place}
+use Rattle.first_pass_grammar.proofs.Common.{atx_level-signs, bytes_line_end, add_tokens, close_break, cut, Inline, text_upto, chained, AppendsLine}
+use Rattle.first_pass_grammar.proofs.Common.{with_tokens-chained, joins_none-fresh, chained-spine, heading_attribute_block, before_attributes}
 use Rattle.first_pass_grammar.proofs.Common.{heading_attributes_of, text_before_attributes, CowStr, Names, NamesAttributes, Extends, line_more, MathBraces}
 use Rattle.first_pass_grammar.proofs.Common.{no_braces, Document, document, kept_len, heading_chain, heading_text_at, IsHeading, HeadingIndex, Options}
-use Rattle.first_pass_grammar.proofs.Common.{AreLineTokens, Braces, option_map_or}
+use Rattle.first_pass_grammar.proofs.Common.{Braces, option_map_or}
 use Rattle.first_pass_tree.specs.Forest.{childless}
 use Rattle.first_pass_lines.specs.Lines.{is_number_sign}
 use Rattle.first_pass_tokens.proofs.ChainLemmas.{childless-chained, cut_siblings-chained}
@@ -45,27 +45,17 @@ module _ {texts : List CowStr} {s : Inline} {old read last : Forest Item} {answe
   pub heading_open : slice_get last.spine 0 ≡ Some ix
   heading_open = ap (λ (f : Forest Item). slice_get f.spine 0) read_is ∙ ap (λ s. slice_get s 0) (chained-spine old whole ∙ pushed.innermost)
 
-  module _ (kept : ℕ) (content : List ℕ) (kept_is : kept ≡ kept_len content) (new : Forest Item) where
+  module _ {kept : ℕ} {content : List ℕ} {new : Forest Item} (kept_is : kept ≡ kept_len content) where
     appends : new ≡ chained old (heading_chain kept s.start whole) → AppendsHeading texts s content old new
-    appends new_is = record {
-      tokens = line.tokens;
-      answer = answer;
-      after = after;
-      line = line.line;
-      tree_is = new_is ∙ ap (λ n. chained old (heading_chain n s.start whole)) kept_is;
-    }
+    appends new_is = grind arith
 
     -- nothing of the text is kept
     pub heading_empty : new ≡ childless last ix → kept ≡ 0 → AppendsHeading texts s content old new
-    heading_empty new_is none =
-        appends (new_is ∙ ap (λ f. childless f ix) read_is ∙ childless-chained old whole ix pushed.last pushed.none
-        ∙ ap (chained old) (sym (chain_none kept s.start whole none)))
+    heading_empty new_is none = grind (arith, appends, read_is, childless-chained, chain_none)
 
     -- some of it is kept
     pub heading_cut : new ≡ cut_siblings last (s.start + kept) → (kept ≡ 0 → ⊥) → AppendsHeading texts s content old new
-    heading_cut new_is some =
-        appends (new_is ∙ ap (λ f. cut_siblings f (s.start + kept)) read_is ∙ cut_siblings-chained old whole (s.start + kept) innermost pushed.none
-        ∙ ap (chained old) (sym (chain_kept kept s.start whole some)))
+    heading_cut new_is some = grind (arith, appends, read_is, cut_siblings-chained, innermost, chain_kept)
 
 -- the line of a heading whose text begins at an offset
 abbrev heading_line : List ℕ → ℕ → List ℕ
@@ -83,11 +73,8 @@ cut_by start block = option_map (λ (b : Braces). start + b.opening) block
 cut_content : (options : Options) (text : List ℕ) (start next : ℕ) (o : Option Braces) → heading_attribute_block options (heading_line text start) ≡ o
     → next ≡ line_end_at (text_upto text (cut_by start o)) start
     → slice_range text start (unwrap_or (cut_by start o) next) ≡ before_attributes options (heading_line text start)
-cut_content options text start next None h e =
-    line_between text start next e ∙ sym (before_none options (heading_line text start) h)
-cut_content options text start next (Some block) h e =
-    content_read options text start (line_len (drop start text)) (start + block.opening)
-    (ap (λ n. start + n) (sym (length_some options (heading_line text start) block h)))
+cut_content options text start next None h e = grind (arith, line_between, before_none)
+cut_content options text start next (Some block) h e = grind (arith, content_read, length_some)
 
 -- The chain of an ATX heading's line that was read, up to the attribute block, and the attributes that were found.
 pub heading_read : (d : Document) (start next : ℕ) (cut : Option ℕ) (index : Option HeadingIndex) (old new : Forest Item)
@@ -118,11 +105,7 @@ heading_read d start next cut index old new cut_is next_is a named =
         tokens = a.tokens;
         answer = a.answer;
         after = a.after;
-        line = subst (λ t.
-            AreLineTokens more.texts (record { options = d.options; whole = text; text = t; start = start; row = false; braces = no_braces }) a.tokens a.answer
-            a.after)
-            text_is
-            (line_more (e.more_texts, e.texts) a.line);
+        line = rw text_is at (line_more (e.more_texts, e.texts) a.line);
         chain_is = refl;
         named = named more e;
         end_is = next_is;
@@ -146,16 +129,12 @@ pub place_some : (options : Options) (text : List ℕ) (start opening to : ℕ) 
     → heading_attribute_block options (heading_line text start) ≡ Some block
     → opening ≡ start + length (before_attributes options (heading_line text start)) → to ≡ line_end_at text start
     → Some (record { opening = opening; line_end = to }) ≡ attribute_place options text start
-place_some options text start opening to block h e f =
-    let at : opening ≡ start + block.opening = e ∙ ap (λ n. start + n) (length_some options (heading_line text start) block h) in
-    rw (at, f) (sym (ap (option_map (place_at text start)) h))
+place_some options text start opening to block h e f = grind (arith, length_some)
 
 pub place_cut : (text : List ℕ) (options : Options) (start : ℕ) (place : Option AttributeBlock) → place ≡ attribute_place options text start
     → option_map (λ (p : AttributeBlock). p.opening) place
     ≡ option_map (λ (b : Braces). start + b.opening) (heading_attribute_block options (heading_line text start))
-place_cut text options start place e =
-    ap (option_map (λ (p : AttributeBlock). p.opening)) e ∙ elim (heading_attribute_block options (heading_line text start))
-    as (λ o. option_map (λ (p : AttributeBlock). p.opening) (option_map (place_at text start) o) ≡ cut_by start o) [ None ↦ refl | Some b ↦ refl ]
+place_cut text options start place e = grind arith
 
 fits_by : (text : List ℕ) (options : Options) (start : ℕ) (o : Option Braces) → heading_attribute_block options (heading_line text start) ≡ o
     → start ≤ length text
@@ -180,10 +159,7 @@ place_fits text options start place cut e f within =
 pub place_end : (text : List ℕ) (options : Options) (start next : ℕ) (place : Option AttributeBlock) → place ≡ attribute_place options text start
     → next ≡ line_end_at (text_upto text (option_map (λ (p : AttributeBlock). p.opening) place)) start
     → option_map_or (λ (p : AttributeBlock). p.line_end) place next ≡ line_end_at text start
-place_end text options start next place e f =
-    ap (λ o. option_map_or (λ (p : AttributeBlock). p.line_end) o next) e
-    ∙ end_of text start next (heading_attribute_block options (heading_line text start))
-    (f ∙ ap (λ c. line_end_at (text_upto text c) start) (place_cut text options start place e))
+place_end text options start next place e f = grind (arith, end_of, place_cut)
 
 -- bytes that pass a test, all of which are content
 pub prefix_in : (p : ℕ → Bool) → ((b : ℕ) → p b ≡ true → is_content b ≡ true) → (bs : List ℕ) → prefix_len p bs ≤ prefix_len is_content bs

@@ -1,6 +1,6 @@
 -- The number of bytes of an ATX heading's text that are kept, counted from its end.
-use Rattle.std.proofs.Common.{◌≡◌, inl, inr, ℕ, zero, suc, ◌+◌, ◌-◌, ◌<◌, ◌≤◌, ◌==◌, ◌&&◌, ◌||◌, Bool, true, false, List, length, take, get_or, nat_lt}
-use Rattle.std.proofs.Common.{refl, sym, ap, ◌∙◌, arith, length-take-le, if◌then◌else◌, ltb-false, true≢false, take_all, take-take}
+use Rattle.std.proofs.Common.{◌≡◌, inl, inr, ℕ, zero, suc, ◌+◌, ◌-◌, ◌<◌, ◌≤◌, ◌==◌, ◌&&◌, ◌||◌, Bool, true, false, List, length, take, get_or, nat_lt, refl}
+use Rattle.std.proofs.Common.{sym, ap, ◌∙◌, arith, length-take-le, if◌then◌else◌, ltb-false, true≢false, take_all, take-take}
 use Rattle.first_pass_grammar.proofs.Common.{suffix_len, cases_Bool, cases_lt, cond_both, cond-true, cond-false, and_parts, nat_tests, suffix_len-le-length}
 use Rattle.first_pass_grammar.proofs.Common.{space, number_sign, is_space_or_line_end, kept_len}
 use Rattle.std.proofs.lemmas.Bool.{and_cases}
@@ -100,25 +100,18 @@ kept_counted text =
     ∙ ap (λ (ys : List ℕ). let o : ℕ = t - s in let n : ℕ = suffix_len (λ b. b == space) ys in if (o == 0) || nat_lt 0 n then o - n else t)
     (take-take (t - s) t text (omega arith))
 
-choose_all : (t o n : ℕ) → o ≡ t → n ≡ 0 → (if (o == 0) || nat_lt 0 n then o - n else t) ≡ t
-choose_all t o n e f = cond_both ((o == 0) || nat_lt 0 n) (o - n) t (λ (z : ℕ). z ≡ t) (λ all. omega arith) (λ none. refl)
-
-unclosed : (text : List ℕ)
-    → suffix_len (λ b. b == number_sign) (take (length text - suffix_len is_space_or_line_end text) text) ≡ 0
-    → kept_len text ≡ length text - suffix_len is_space_or_line_end text
-unclosed text none =
-    let t : ℕ = length text - suffix_len is_space_or_line_end text in
-    let o : ℕ = t - suffix_len (λ b. b == number_sign) (take t text) in
-    let all : o ≡ t = omega arith in
-    kept_counted text
-    ∙ choose_all t o (suffix_len (λ b. b == space) (take o text)) all
-    (ap (λ (k : ℕ). suffix_len (λ b. b == space) (take k text)) all ∙ no_spaces (take t text) (none_before is_space_or_line_end text))
-
 -- Only the bytes that are left out at the end are removed if no number sign is before them.
 pub kept_unclosed : (text front : List ℕ) (a n : ℕ)
     → a ≡ suffix_len is_space_or_line_end text → front ≡ take (length text - a) text → n ≡ suffix_len (λ b. b == number_sign) front → n ≡ 0
     → kept_len text ≡ length text - a
 kept_unclosed text front a n e f g none =
-    let same : suffix_len (λ b. b == number_sign) (take (length text - suffix_len is_space_or_line_end text) text) ≡ n =
+    let t : ℕ = length text - suffix_len is_space_or_line_end text in
+    let o : ℕ = t - suffix_len (λ b. b == number_sign) (take t text) in
+    let spaces : ℕ = suffix_len (λ b. b == space) (take o text) in
+    let signs : suffix_len (λ b. b == number_sign) (take t text) ≡ n =
     ap (λ (k : ℕ). suffix_len (λ b. b == number_sign) (take (length text - k) text)) (sym e) ∙ ap (suffix_len (λ b. b == number_sign)) (sym f) ∙ sym g in
-    unclosed text (same ∙ none) ∙ ap (λ k. length text - k) (sym e)
+    let all : o ≡ t = omega arith in
+    let no_space : spaces ≡ 0 =
+    ap (λ (k : ℕ). suffix_len (λ b. b == space) (take k text)) all ∙ no_spaces (take t text) (none_before is_space_or_line_end text) in
+    kept_counted text
+    ∙ cond_both ((o == 0) || nat_lt 0 spaces) (o - spaces) t (λ (z : ℕ). z ≡ length text - a) (λ taken. omega arith) (λ kept. omega arith)

@@ -1,15 +1,15 @@
 -- Thematic breaks and ATX headings are in order.
 use Rattle.std.proofs.Common.{◌≡◌, ◌⊎◌, inl, inr, ℕ, ◌+◌, ◌-◌, ◌<◌, ◌≤◌, ◌==◌, ◌||◌, Bool, true, false, List, [], length, take, drop, get_or, slice_index}
-use Rattle.std.proofs.Common.{nat_lt, Option, Some, None, IsUtf8, IsCharBoundary, refl, sym, ap, subst, ◌∙◌, arith, length-drop, length-take-le}
-use Rattle.std.proofs.Common.{get_or-drop, drop-drop, if◌then◌else◌, eqb-true, ltb-true, get_or-take}
+use Rattle.std.proofs.Common.{nat_lt, Option, Some, None, IsUtf8, IsCharBoundary, refl, sym, ap, subst, ◌∙◌, arith, length-drop, length-take-le, get_or-drop}
+use Rattle.std.proofs.Common.{drop-drop, if◌then◌else◌, eqb-true, ltb-true, get_or-take}
 use Rattle.first_pass_grammar.proofs.Common.{prefix_len, suffix_len, cond_both, cases_lt, false≢true, nat_tests, get_or_past, CowStr, MathBraces, no_braces}
-use Rattle.first_pass_grammar.proofs.Common.{AreLineTokens, text_end, Item, HeadingLevel, Rule, Forest, added, is_line_end, is_white, line_len}
-use Rattle.first_pass_grammar.proofs.Common.{level_number, atx_level, Place, IsPlaceOf, offset, line_place, line_len-some, line_len-fits, line_is_place}
-use Rattle.first_pass_grammar.proofs.Common.{white_keeps, atx_level-signs, add_tokens, close_break, cut, AreInOrder, bytes_closed, order_bound, order_from}
-use Rattle.first_pass_grammar.proofs.Common.{order_to, order_adds, line_in_order, EscapesStand, heading_attribute_block, before_attributes}
-use Rattle.first_pass_grammar.proofs.Common.{text_before_attributes, Document, is_space_or_line_end, kept_len, heading_chain, heading_text_at}
-use Rattle.first_pass_grammar.proofs.Common.{heading_block, line_bytes, rule_block, IsHeading, Braces, space, number_sign, left_brace, HeadingIndex, Inline}
-use Rattle.first_pass_grammar.proofs.Common.{option_map_or, IsCharBoundary-before_ascii, within_top}
+use Rattle.first_pass_grammar.proofs.Common.{AreLineTokens, text_end, Item, HeadingLevel, Rule, Forest, added, is_line_end, is_white, line_len, level_number}
+use Rattle.first_pass_grammar.proofs.Common.{atx_level, Place, IsPlaceOf, offset, line_place, line_len-some, line_len-fits, line_is_place, white_keeps}
+use Rattle.first_pass_grammar.proofs.Common.{atx_level-signs, add_tokens, close_break, cut, AreInOrder, bytes_closed, order_bound, order_from, order_to}
+use Rattle.first_pass_grammar.proofs.Common.{order_adds, line_in_order, EscapesStand, heading_attribute_block, before_attributes, text_before_attributes}
+use Rattle.first_pass_grammar.proofs.Common.{Document, is_space_or_line_end, kept_len, heading_chain, heading_text_at, heading_block, line_bytes, rule_block}
+use Rattle.first_pass_grammar.proofs.Common.{IsHeading, Braces, space, left_brace, HeadingIndex, Inline, option_map_or}
+use Rattle.first_pass_grammar.proofs.Common.{IsCharBoundary-before_ascii, within_top}
 use Rattle.std.proofs.lemmas.Bool.{eqb-false, or_cases}
 use Rattle.first_pass_items.specs.declared.item.ItemBody.TheVariants.{Heading as HeadingBody}
 use Rattle.first_pass_lines.specs.Lines.{is_number_sign}
@@ -31,10 +31,7 @@ use Rattle.first_pass_open.proofs.PlaceLemmas.{place_end, line_start_end}
 -- the run of bytes that pass at the end of a front of a list: it is empty, or its first byte passes
 run_first : (p : ℕ → Bool) (xs : List ℕ) (n : ℕ) → n ≤ length xs → (let size : ℕ = suffix_len p (take n xs) in
     (size ≡ 0) ⊎ ((0 < size) × (size ≤ n) × (p (get_or xs (n - size) 0) ≡ true)))
-run_first p xs n within = elim (cases_lt 0 (suffix_len p (take n xs))) [
-  | inl some ↦ (let first = suffix_first p xs n within some in inr (some, first.0, first.1))
-  | inr none ↦ inl (omega arith)
-]
+run_first p xs n within = grind (arith, cases_lt, suffix_first)
 
 -- after the kept bytes of a heading's text there is a byte that is left out, or nothing; or no byte is kept
 abbrev KeptAt : List ℕ → ℕ → Type 0
@@ -64,10 +61,7 @@ kept_by text t o n e within g =
     ])
 
 kept_at : (text : List ℕ) → KeptAt text (kept_len text)
-kept_at text =
-    let t : ℕ = length text - suffix_len is_space_or_line_end text in
-    let o : ℕ = t - suffix_len (λ b. b == number_sign) (take t text) in
-    subst (KeptAt text) (sym (kept_counted text)) (kept_by text t o (suffix_len (λ b. b == space) (take o text)) refl (omega arith) refl)
+kept_at text = grind (arith, kept_counted, kept_by)
 
 line_aside : (b : ℕ) → is_line_end b ≡ true → is_space_or_line_end b ≡ true
 line_aside b h = grind (arith, nat_tests, h)
@@ -89,17 +83,8 @@ record IsContent (text : List ℕ) (start : ℕ) (content : List ℕ) : Type 0 w
 kept_place : (text : List ℕ) (start n : ℕ) (content : List ℕ) → IsContent text start content → KeptAt content n
     → (n ≡ 0) ⊎ ((start + n ≤ length text) × (slice_index text (start + n) < 33))
 kept_place text start n content is (inl none) = inl none
-kept_place text start n content is (inr (inl aside)) =
-    let fits = is.fits in
-    let inside = aside.0 in
-    inr (omega arith, aside_small (slice_index text (start + n)) (ap is_space_or_line_end (sym (is.bytes n inside)) ∙ aside.1))
-kept_place text start n content is (inr (inr whole)) =
-    let fits = is.fits in
-    let all = whole.0 in
-    elim (is.ended whole.1) [
-      | inl none ↦ inl (omega arith)
-      | inr small ↦ (let there : start + length content ≡ start + n = omega arith in inr (omega arith, subst (λ k. slice_index text k < 33) there small))
-    ]
+kept_place text start n content is (inr (inl aside)) = grind (arith, aside_small)
+kept_place text start n content is (inr (inr whole)) = grind arith
 
 -- a whole line
 line_content : (text : List ℕ) (start : ℕ) → start ≤ length text → IsContent text start (take (line_len (drop start text)) (drop start text))
@@ -149,16 +134,11 @@ chain_kept : (text : List ℕ) (start next kept : ℕ) (chain : List Item) → A
     → (kept ≡ 0) ⊎ ((start + kept ≤ next) × IsCharBoundary text (start + kept) × AreInOrder text start (start + kept) (cut (start + kept) chain))
     → AreInOrder text start next (heading_chain kept start chain)
 unfolding heading_chain
-chain_kept text start next kept chain h whole =
-    cond_both (kept == 0) [] (cut (start + kept) chain) (AreInOrder text start next) (λ b. order_bound text start next chain h) (λ b. elim whole [
-      | inl none ↦ absurd (eqb-false kept 0 b none)
-      | inr some ↦ order_to text start (start + kept) next (cut (start + kept) chain) some.2 some.0
-    ])
+chain_kept text start next kept chain h whole = grind (arith, cond_both, order_bound, eqb-false, order_to)
 
 kept_few : (kept start : ℕ) (chain : List Item) → length (heading_chain kept start chain) ≤ length chain
 unfolding heading_chain
-kept_few kept start chain =
-    cond_both (kept == 0) [] (cut (start + kept) chain) (λ (ys : List Item). length ys ≤ length chain) (λ b. omega arith) (λ b. cut_few (start + kept) chain)
+kept_few kept start chain = grind (arith, cond_both, cut_few)
 
 kept_less : (content : List ℕ) (n : ℕ) → KeptAt content n → n ≤ length content
 kept_less content n (inl none) = omega arith
@@ -207,10 +187,8 @@ module _ (d : Document) (start : ℕ) (index : Option HeadingIndex) (chain : Lis
       → before_attributes d.options (line_bytes d start) ≡ content → IsUtf8 front → IsCharBoundary front start → IsContent front start content
       → line_end_at front start ≤ next → start + length content ≤ next → AreInOrder front start next chain × (length chain + start ≤ next)
   front_fits front content next text_is content_is utf8 boundary is ends reach =
-      let line = subst (λ t.
-      AreLineTokens d.names.texts (record { options = d.options; whole = d.text; text = t; start = start; row = false; braces = no_braces }) h.tokens h.answer
-      h.after)
-      text_is h.line in
+      let line : AreLineTokens d.names.texts (record { options = d.options; whole = d.text; text = front; start = start; row = false; braces = no_braces })
+      h.tokens h.answer h.after = rw text_is at h.line in
       let same : chain ≡ heading_chain (kept_len content) start (close_break h.answer.1 (add_tokens [] h.tokens)) =
       h.chain_is ∙ ap (λ xs. heading_chain (kept_len xs) start (close_break h.answer.1 (add_tokens [] h.tokens))) content_is in
       rw same (line_fits utf8 boundary line content next is (omega (arith, (line_ends boundary.0 line).place)) reach)
@@ -285,10 +263,10 @@ line_stops text start u b =
     subst (IsCharBoundary text) (line_start_end text start) (place_end text (line_place start (drop start text)) u (line_is_place text start b))
 
 -- An ATX heading fits in its line.
-pub heading_fits : (d : Document) (start : ℕ) (level : HeadingLevel) (old new : Forest Item) (next : ℕ)
-    → IsUtf8 d.text → IsCharBoundary d.text start → atx_level (drop start d.text) ≡ Some level → AddsHeading d start level old new next
-    → (from : ℕ) → from ≤ start → AddsBetween d.text from next old new
-heading_fits d start level old new next u b is h from following =
+pub heading_fits : {d : Document} {start : ℕ} {level : HeadingLevel} {old new : Forest Item} {next : ℕ} → AddsHeading d start level old new next
+    → IsUtf8 d.text → IsCharBoundary d.text start → atx_level (drop start d.text) ≡ Some level → (from : ℕ) → from ≤ start
+    → AddsBetween d.text from next old new
+heading_fits {d} {start} {level} {old} {next = next} h u b is from following =
     let text : List ℕ = d.text in
     let text_at : ℕ = heading_text_at text start (level_number level) in
     let ends : IsCharBoundary text next = subst (IsCharBoundary text) (sym h.end_is) (line_stops text start u b) in

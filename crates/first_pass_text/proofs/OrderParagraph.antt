@@ -1,6 +1,6 @@
 -- The tokens of a paragraph or of a setext heading are in order.
-use Rattle.std.proofs.Common.{◌≡◌, inl, inr, ℕ, ◌≤◌, true, false, List, [], ◌∷◌, length, drop, Option, Some, None, IfSome, IsUtf8, IsCharBoundary, refl}
-use Rattle.std.proofs.Common.{sym, ap, subst, ◌∙◌, arith}
+use Rattle.std.proofs.Common.{◌≡◌, inl, inr, ℕ, ◌≤◌, true, false, List, [], ◌∷◌, length, drop, Option, Some, None, IfSome, IsUtf8, IsCharBoundary, refl, sym}
+use Rattle.std.proofs.Common.{ap, subst, ◌∙◌, arith}
 use Rattle.first_pass_grammar.proofs.Common.{cases_lt, false≢true, Item, is_escaped, Place, offset, line_rest, place_at, IsPlaceOf, start_of, lines_at-line}
 use Rattle.first_pass_grammar.proofs.Common.{lines_at-end, line_len-within, start_of-lines, MathBraces, no_braces, spot, AreLineTokens, IsBreak, EndsLine}
 use Rattle.first_pass_grammar.proofs.Common.{text_end, add_tokens, close_break, cut, AreInOrder, bytes_closed, EscapesStand, line_in_order, order_to}
@@ -40,11 +40,7 @@ chain_break : (text : List ℕ) (from at start next : ℕ) (break : Option Item)
     → ChainStands text from at chain → at ≤ next → IfSome break (StandsAfter text at next)
     → IfSome break (IsBreak start next) → ChainStands text from next (add_break break chain)
 chain_break text from at start next None chain h later following is = (order_to text from at next chain h.0 later, h.1, h.2)
-chain_break text from at start next (Some x) chain h later following is = (
-  order_append text from at next chain (x ∷ []) h.0 (following.from, following.order, following.starts, following.ends, omega (arith, following.to)),
-  escapes_append text from chain x h.1 (break_unescaped x.body is.kind),
-  bytes_append chain (x ∷ []) h.2 (is.before, tt),
-)
+chain_break text from at start next (Some x) chain h later following is = grind (arith, order_append, escapes_append, break_unescaped, bytes_append)
 
 -- a line, and its tokens after a chain
 record OneLine (d : Document) (from ix : ℕ) (chain tokens : List Item) (answer : ℕ × Option Item) : Type 0 where
@@ -93,20 +89,7 @@ pub record TextInOrder (d : Document) (start : ℕ) (t : TextLines) : Type 0 whe
 text_stops : (d : Document) (from ix : ℕ) (chain tokens : List Item) (answer : ℕ × Option Item) (left : List Place) (t : TextLines)
     → OneLine d from ix chain tokens answer
     → left ≡ lines_from d.text answer.0 → t ≡ text_lines (add_tokens chain tokens) answer.1 left → TextInOrder d from t
-text_stops d from ix chain tokens answer left t l following e =
-    let there : start_of (length d.text) left ≡ answer.0 = ap (start_of (length d.text)) following ∙ start_of-lines d.text answer.0 l.within in
-    let before : l.stop ≤ start_of (length d.text) left = omega (arith, l.before) in
-    subst (TextInOrder d from) (sym e) (record {
-      stop = l.stop;
-      order = l.stands.0;
-      escapes = l.stands.1;
-      bytes = l.stands.2;
-      before = before;
-      break_fits = subst (λ to. IfSome answer.1 (StandsAfter d.text l.stop to)) (sym there) l.break_fits;
-      left_at = answer.0;
-      left_is = following;
-      left_within = l.within;
-    })
+text_stops d from ix chain tokens answer left t l following e = grind (arith, start_of-lines)
 
 module _ (d : Document) (path : List Container) (utf8 : IsUtf8 d.text) (from : ℕ) where
   lines_in_order : (lines : List Place) (ix : ℕ) (b : MathBraces) (chain : List Item) (t : TextLines)
@@ -136,13 +119,7 @@ module _ (d : Document) (path : List Container) (utf8 : IsUtf8 d.text) (from : �
 -- the first of the remaining lines begins before the second does
 pub text_later : (text : List ℕ) (left : List Place) (m : ℕ)
     → left ≡ lines_from text m → m ≤ length text → start_of (length text) left ≤ start_of (length text) (drop 1 left)
-text_later text left m is within =
-    rw is (elim (cases_lt m (length text)) [
-      | inl some ↦
-          let end : line_end_at text m ≤ length text = (line_len-within text m some).1 in
-          rw (lines_at-line text m some) (omega (arith, start_of-lines text (line_end_at text m) end))
-      | inr none ↦ rw (lines_at-end text m none) (omega arith)
-    ])
+text_later text left m is within = grind (arith, cases_lt, line_len-within, lines_at-line, start_of-lines, lines_at-end)
 
 -- The chain of the lines of a text is in order from the start of the text.
 pub text_is_in_order : (d : Document) (path : List Container) (start : ℕ) (t : TextLines) → IsUtf8 d.text → IsCharBoundary d.text start

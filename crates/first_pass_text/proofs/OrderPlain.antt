@@ -1,14 +1,14 @@
 -- The block of a paragraph or of a setext heading is between two offsets in order.
 use Rattle.std.proofs.Common.{◌≡◌, inl, inr, ℕ, ◌+◌, ◌-◌, ◌*◌, ◌<◌, ◌≤◌, suc, Bool, true, false, List, [], ◌∷◌, ◌++◌, length, drop, Option, Some, None}
-use Rattle.std.proofs.Common.{IsUtf8, IsCharBoundary, refl, sym, ap, subst, ◌∙◌, arith, MatchOption, get_or, slice_index, take, ◌==◌, get_or-drop}
-use Rattle.std.proofs.Common.{append-nil, get_or-take, lt-ltb, le-ltb, slice_range}
+use Rattle.std.proofs.Common.{IsUtf8, IsCharBoundary, refl, sym, ap, subst, ◌∙◌, arith, MatchOption, slice_index, ◌==◌, get_or-drop, append-nil}
+use Rattle.std.proofs.Common.{get_or-take, le-ltb, slice_range}
 use Rattle.first_pass_grammar.proofs.Common.{cases_lt, false≢true, cond-true, cond-false, and_left, Item, Forest, is_text, is_escaped, Place, start_of}
 use Rattle.first_pass_grammar.proofs.Common.{start_of-lines, close_break, cut, AreInOrder, bytes_closed, order_bound, order_to, Document, marker_items}
 use Rattle.first_pass_grammar.proofs.Common.{TextLines, block_with, lines_from, counted_nodes, is_task_marker, Ranged, Empty, extent_of, extents, laid}
-use Rattle.first_pass_grammar.proofs.Common.{Within, Elsewhere, InItem, below, Fits, FitsBetween, IsBetween, within_top, ItemBody, TaskListMarker}
+use Rattle.first_pass_grammar.proofs.Common.{Within, InItem, below, Fits, FitsBetween, IsBetween, within_top, ItemBody, TaskListMarker}
 use Rattle.first_pass_grammar.proofs.Common.{HeadingLevel, underline_first, plain_text, text_children, by_backslash, heading_bytes, heading_children}
-use Rattle.first_pass_grammar.proofs.Common.{IsUnderlined, Taken, taking, nat_tests, IsCharBoundary-before_ascii, suffix_len, left_brace, ascii_end}
-use Rattle.first_pass_grammar.proofs.Common.{Options, is_white, Braces, heading_attribute_block, chain_end, kept_before}
+use Rattle.first_pass_grammar.proofs.Common.{IsUnderlined, Taken, taking, nat_tests, IsCharBoundary-before_ascii, left_brace, ascii_end, Options}
+use Rattle.first_pass_grammar.proofs.Common.{Braces, heading_attribute_block, chain_end, kept_before}
 use Rattle.first_pass_tokens.proofs.InOrder.{HaveBytes}
 use Rattle.first_pass_tokens.proofs.BytesLemmas.{few_in_order}
 use Rattle.first_pass_tokens.proofs.OrderLemmas.{order_closed, suffix_first}
@@ -56,14 +56,8 @@ kids_fit : (text : List ℕ) (w : Within) (from start next : ℕ) (marker : Opti
     → AreInOrder text start next chain → MarkerBetween text from start marker → StandsIn w marker
     → (from ≤ start) × Fits text (below w from (text_extent start next)) start next (row_of (marker_items marker ++ chain))
 unfolding Fits row_of
-kids_fit text w from start next None chain h stands inside =
-    (stands, row_of-fits text (below w from (text_extent start next)) start next chain h)
-kids_fit text w from start next (Some m) chain h stands inside =
-    let b : IsBetween text from start (extent_of m) = stands.1 in (
-      omega (arith, b.following, b.order, b.before),
-      subst (λ v. Fits text (below v from (text_extent start next)) start next (row_of (m ∷ chain))) (sym inside)
-          (inr (stands, b.order, row_of-fits text Elsewhere start next chain h)),
-    )
+kids_fit text w from start next None chain h stands inside = grind (arith, row_of-fits)
+kids_fit text w from start next (Some m) chain h stands inside = grind (arith, row_of-fits)
 
 block_laid : (start next : ℕ) (body : ItemBody) (chain : List Item)
     → extents (block_with start next body chain) ≡ laid 0 (Node (extent_of (text_node start next body)) (row_of chain) Empty)
@@ -119,18 +113,7 @@ children_between text w from start to next body kids is less c =
 kept_byte : (broken : Bool) (bs : List ℕ) (opening : ℕ) → opening < length bs → slice_index bs opening ≡ left_brace
     → (kept_before broken opening bs ≤ opening) × (slice_index bs (kept_before broken opening bs) < ascii_end)
 kept_byte true bs opening within is = (omega arith, omega (arith, is))
-kept_byte false bs opening within is =
-    let white : ℕ = suffix_len is_white (take opening bs) in
-    elim (cases_lt 0 white) [
-      | inl some ↦
-          let first = suffix_first is_white bs opening (omega arith) some in
-          let small : (b : ℕ) → is_white b ≡ true → b < ascii_end = λ b h. grind (arith, nat_tests, h) in
-          (omega arith, small (get_or bs (opening - white) 0) first.1)
-      | inr none ↦
-          let same : opening - white ≡ opening = omega arith in
-          let at : get_or bs (opening - white) 0 ≡ left_brace = ap (slice_index bs) same ∙ is in
-          (omega arith, omega arith)
-    ]
+kept_byte false bs opening within is = grind (arith, cases_lt, suffix_first, nat_tests)
 
 -- A heading's content ends at a character boundary before its attribute block.
 pub kept_place : (text : List ℕ) (options : Options) (start last : ℕ) (broken : Bool) (block : Braces)
@@ -156,8 +139,7 @@ marked_end text from start stop (Some m) (x ∷ xs) stands low e = e
 
 -- the rest of a marker before the cut, or of one that is empty there
 pub cut_marker : (e : ℕ) (m : Item) (chain : List Item) → m.start < e → m.«end» ≤ e → cut e (m ∷ chain) ≡ m ∷ cut e chain
-cut_marker e m chain before whole =
-    cond-true _ _ _ (lt-ltb m.start e before) ∙ ap (λ (x : Item). x ∷ cut e chain) (cond-false _ _ _ (le-ltb e m.«end» whole))
+cut_marker e m chain before whole = grind (arith, cond-true, cond-false)
 
 cut_empty : (e : ℕ) (m : Item) (chain : List Item) → e ≤ m.start → is_escaped m.body ≡ false → cut e (m ∷ chain) ≡ []
 cut_empty e m chain following plain = cond-false _ _ _ (le-ltb m.start e following) ∙ cond-false _ _ _ (and_left (is_escaped m.body) (m.start == e) plain)
@@ -169,15 +151,7 @@ module _ (d : Document) (w : Within) (from start : ℕ) (l : TextLines) (h : Tex
   -- the children of a paragraph
   text_stand : (marker : Option Item)
       → MarkerBetween d.text from start marker → StandsIn w marker → ChildrenStand d.text w from start next_start (text_children marker l)
-  text_stand marker stands inside = record {
-    lead = marker;
-    chain = close_break l.break l.chain;
-    is = refl;
-    order = order_closed d.text start h.stop next_start l.break l.chain h.order h.before h.break_fits;
-    bytes = bytes_closed l.break l.chain h.bytes;
-    stands = stands;
-    inside = inside;
-  }
+  text_stand marker stands inside = grind (arith, order_closed, bytes_closed)
 
   -- the children of a heading that is cut
   cut_stand : (e : ℕ) (marker : Option Item) → MarkerBetween d.text from start marker → StandsIn w marker → start ≤ e → e ≤ h.stop → IsCharBoundary d.text e
@@ -263,11 +237,10 @@ low_start : (text : List ℕ) (from start : ℕ) (marker : Option Item) → Mark
 low_start text from start None stands = stands
 low_start text from start (Some m) stands = let b : IsBetween text from start (extent_of m) = stands.1 in omega (arith, b.following, b.order, b.before)
 
-pub plain_fits : (d : Document) (start : ℕ) (marker : Option Item) (old new : Forest Item) (next : ℕ)
-    → AddsPlainText d start marker old new next
+pub plain_fits : {d : Document} {start : ℕ} {marker : Option Item} {old new : Forest Item} {next : ℕ} → AddsPlainText d start marker old new next
     → IsUtf8 d.text → IsCharBoundary d.text start → MarkerIsInItem old marker → (from : ℕ) → MarkerBetween d.text from start marker
     → AddsBetween d.text from next old new
-plain_fits d start marker old new next adds utf8 boundary inside from stands =
+plain_fits {d} {start} {marker} {old} {next = next} adds utf8 boundary inside from stands =
     let (l, are, ended) = adds.is d.names (extends_none d.names) in
     let h = text_is_in_order d (path_of d.options old) start l utf8 boundary are in
     let w : Within = within_top old in

@@ -1,18 +1,16 @@
 -- The lines of a text, one after the other.
-use Rattle.std.proofs.Common.{◌≡◌, inl, inr, ℕ, ◌+◌, ◌<◌, ◌≤◌, ◌==◌, ◌&&◌, Bool, true, false, List, [], ◌∷◌, ◌++◌, length, drop, ◌^◌, if◌then◌else◌, Option}
-use Rattle.std.proofs.Common.{Some, None, is_some, IfSome, IsUtf8, IsCharBoundary, refl, sym, ap, subst, ◌∙◌, arith, ◌||◌, option_map}
+use Rattle.std.proofs.Common.{◌≡◌, inl, inr, ℕ, ◌+◌, ◌<◌, ◌≤◌, Bool, true, false, List, [], ◌∷◌, ◌++◌, length, drop, ◌^◌, Option, Some, None, is_some, IfSome}
+use Rattle.std.proofs.Common.{IsUtf8, IsCharBoundary, refl, sym, ap, subst, ◌∙◌, arith, ◌||◌, option_map}
 use Rattle.first_pass_grammar.proofs.Common.{cases_lt, false≢true, cond-false, cond_both, and_left, and_right, or_parts, Item, Options, Forest, appended}
-use Rattle.first_pass_grammar.proofs.Common.{pushed, is_text, TreeIndex, line_len, Rest, offset, line_rest, line_place, place_at, IsPlaceOf, lines_at-line}
-use Rattle.first_pass_grammar.proofs.Common.{lines_at-end, AreLineTokens, EndsLine, IsBreak, Spot, spot, text_token, add_text, add_token, add_tokens}
-use Rattle.first_pass_grammar.proofs.Common.{close_break, is_backslash_break, chained, with_tokens, JoinsNone, AppendsLine, add_text-some}
-use Rattle.first_pass_grammar.proofs.Common.{with_tokens-chained, Context, context, after, front, unindented, Continued, continued, interrupts}
-use Rattle.first_pass_grammar.proofs.Common.{underline_of, Names, Extends, line_more, MathBraces, no_braces, Document, document, around, content_at}
-use Rattle.first_pass_grammar.proofs.Common.{marker_items, add_break, TextLines, text_lines, AreTextLines, lines_from, HeadingLevel, underline_first}
-use Rattle.first_pass_grammar.proofs.Common.{setext_underline, none-some}
-use Rattle.first_pass_tree.specs.Forest.{with_text}
+use Rattle.first_pass_grammar.proofs.Common.{pushed, is_text, TreeIndex, line_len, offset, line_rest, line_place, place_at, IsPlaceOf, lines_at-line}
+use Rattle.first_pass_grammar.proofs.Common.{lines_at-end, AreLineTokens, EndsLine, Spot, spot, add_token, add_tokens, close_break, chained, with_tokens}
+use Rattle.first_pass_grammar.proofs.Common.{JoinsNone, AppendsLine, add_text-some, with_tokens-chained, Context, context, front, unindented, Continued}
+use Rattle.first_pass_grammar.proofs.Common.{interrupts, underline_of, Names, Extends, line_more, MathBraces, no_braces, Document, document, around}
+use Rattle.first_pass_grammar.proofs.Common.{content_at, marker_items, add_break, TextLines, text_lines, AreTextLines, lines_from, HeadingLevel}
+use Rattle.first_pass_grammar.proofs.Common.{underline_first, setext_underline, none-some}
 use Rattle.first_pass_grammar.specs.declared.kind.Container.{Container}
 use Rattle.first_pass_tokens.proofs.ChainLemmas.{with_text-chained, appended-chained}
-use Rattle.first_pass_grammar.specs.Kinds.{ends_paragraph, colon_ends, ends_text, underline_left}
+use Rattle.first_pass_grammar.specs.Kinds.{ends_text}
 use Rattle.first_pass_grammar.proofs.Names.MoreNames.{extends_both}
 use Rattle.first_pass_open.specs.Between.{line_end_at}
 use Rattle.first_pass_text.specs.Appends.{with_closed_break, AppendsLines}
@@ -35,39 +33,18 @@ interrupts-end c how = refl
 -- There is no underline there.
 underline-end : (path : List Container) → underline_of path (line_rest []) ≡ None
 unfolding underline_of setext_underline
-underline-end path =
-    let none : underline_left (front path (line_rest [])) ≡ None = ap underline_left (front-end path) in
-    cond_both (is_some (after path (line_rest []))) (underline_left (front path (line_rest []))) None (λ (o : Option (ℕ × HeadingLevel)). o ≡ None)
-    (λ e. none) (λ e. refl)
+underline-end path = grind (arith, front-end, cond_both)
 
 text_within : (c : Context) (text : List ℕ) (n : ℕ) → ends_text c (line_rest (drop n text)) ≡ false → n < length text
-text_within c text n h =
-    elim (cases_lt n (length text)) [
-      | inl more ↦ more
-      | inr past ↦
-          let line : Rest = line_rest (drop n text) in
-          let other = (or_parts (is_some (underline_of c.path line)) (ends_paragraph c line || colon_ends c line) h).1 in
-          let goes = (or_parts (ends_paragraph c line) (colon_ends c line) other).0 in
-          absurd (false≢true (sym goes ∙ ap (λ bs. ends_paragraph c (line_rest bs)) (ends_past text n past)
-          ∙ ap (interrupts c (continued c.path (line_rest []))) (front-end c.path) ∙ interrupts-end c (continued c.path (line_rest []))))
-    ]
+text_within c text n h = grind (arith, cases_lt, or_parts, false≢true, ends_past, front-end, interrupts-end)
 
 pub underline_within : (path : List Container) (text : List ℕ) (n : ℕ) (underline : ℕ × HeadingLevel)
     → underline_of path (line_rest (drop n text)) ≡ Some underline → n < length text
-underline_within path text n underline h =
-    elim (cases_lt n (length text)) [
-      | inl more ↦ more
-      | inr past ↦ absurd (none-some underline (sym (underline-end path) ∙ ap (λ bs. underline_of path (line_rest bs)) (sym (ends_past text n past)) ∙ h))
-    ]
+underline_within path text n underline h = grind (arith, cases_lt, none-some, underline-end, ends_past)
 
 -- the underline in the line at an offset
 pub underline_there : (path : List Container) (text : List ℕ) (n : ℕ) → underline_first path (lines_from text n) ≡ underline_of path (line_rest (drop n text))
-underline_there path text n =
-    elim (cases_lt n (length text)) [
-      | inl within ↦ ap (underline_first path) (lines_at-line text n within)
-      | inr past ↦
-          ap (underline_first path) (lines_at-end text n past) ∙ sym (ap (λ bs. underline_of path (line_rest bs)) (ends_past text n past) ∙ underline-end path)
-    ]
+underline_there path text n = grind (arith, cases_lt, lines_at-line, lines_at-end, ends_past, underline-end)
 
 -- The text of a line ends at the end of the line.
 pub line_end-text : (path : List Container) (text : List ℕ) (n : ℕ)
@@ -97,15 +74,11 @@ lines_more : (path : List Container) (d : Document) (ix : Spot) (chain : List It
 unfolding AreTextLines front
 lines_more path d ix chain t l goes u b more =
     let n : ℕ = l.next in
-    let within = text_within (around d path) d.text n goes in
-    let first : lines_from d.text n ≡ line_place n (drop n d.text) ∷ lines_from d.text (line_end_at d.text n) = lines_at-line d.text n within in
-    let rest : AreTextLines d path (spot (offset (unindented (place_at n (front path (line_rest (drop n d.text)))))) l.braces)
-    (add_break l.line_break (add_tokens chain l.tokens)) (lines_from d.text (line_end_at d.text n)) t =
-    subst (λ e. AreTextLines d path (spot (offset (unindented (place_at n (front path (line_rest (drop n d.text)))))) l.braces)
-    (add_break l.line_break (add_tokens chain l.tokens)) (lines_from d.text e) t) (line_end-text path d.text n u b) more in
-    let all : AreTextLines d path ix chain (line_place n (drop n d.text) ∷ lines_from d.text (line_end_at d.text n)) t =
-    (l.tokens, (n, l.line_break), l.braces, l.are, inr (goes, rest)) in
-    subst (λ lines. AreTextLines d path ix chain lines t) (sym first ∙ ap (lines_from d.text) l.place) all
+    let at : ℕ = offset (unindented (place_at n (front path (line_rest (drop n d.text))))) in
+    let lines_are : lines_from d.text (line_end_at d.text ix.at) ≡ line_place n (drop n d.text) ∷ lines_from d.text (line_end_at d.text at) =
+    ap (lines_from d.text) (sym l.place) ∙ lines_at-line d.text n (text_within (around d path) d.text n goes)
+    ∙ ap (λ e. line_place n (drop n d.text) ∷ lines_from d.text e) (sym (line_end-text path d.text n u b)) in
+    subst (λ lines. AreTextLines d path ix chain lines t) (sym lines_are) (l.tokens, (n, l.line_break), l.braces, l.are, inr (goes, more))
 
 -- If the next line does not continue the text, the line is the last.
 lines_last : (path : List Container) (d : Document) (ix : Spot) (chain : List Item) (l : LineOf d ix)
@@ -113,13 +86,7 @@ lines_last : (path : List Container) (d : Document) (ix : Spot) (chain : List It
     → AreTextLines d path ix chain (lines_from d.text (line_end_at d.text ix.at))
     (text_lines (add_tokens chain l.tokens) l.line_break (lines_from d.text l.next))
 unfolding AreTextLines front
-lines_last path d ix chain l ends =
-    let n : ℕ = l.next in
-    subst (λ e. AreTextLines d path ix chain (lines_from d.text e) (text_lines (add_tokens chain l.tokens) l.line_break (lines_from d.text n))) l.place
-    (elim (cases_lt n (length d.text)) [
-      | inl within ↦ rw (lines_at-line d.text n within) (l.tokens, (n, l.line_break), l.braces, l.are, inl (ends, refl))
-      | inr past ↦ rw (lines_at-end d.text n past) (l.tokens, (n, l.line_break), l.braces, l.are, refl)
-    ])
+lines_last path d ix chain l ends = grind (arith, cases_lt, lines_at-line, lines_at-end)
 
 -- the break after a chain in the tree
 pub with_child-chained : (f : Forest Item) (chain : List Item) (line_break : Option Item)
@@ -130,29 +97,16 @@ with_child-chained f chain (Some x) = appended-chained f chain x
 pub with_closed_break-chained : (f : Forest Item) (chain : List Item) (line_break : Option Item)
     → JoinsNone f → with_closed_break (chained f chain) line_break ≡ chained f (close_break line_break chain)
 with_closed_break-chained f chain None apart = refl
-with_closed_break-chained f chain (Some x) apart = elim (is_backslash_break x.body)
-    as (λ t. (if t then with_text (chained f chain) x.start (x.start + 1) false else chained f chain)
-    ≡ chained f (if t then add_text x.start (x.start + 1) false chain else chain)) [
-      | true ↦ with_text-chained f chain x.start (x.start + 1) false apart (omega arith)
-      | false ↦ refl
-    ]
+with_closed_break-chained f chain (Some x) apart = grind (arith, with_text-chained)
 
 -- a token that is no text stays first, whatever follows it
 token_after : (m y : Item) (chain : List Item) → is_text m.body ≡ false → add_token (m ∷ chain) y ≡ m ∷ add_token chain y
-token_after m y [] plain =
-    cond-false _ _ _ (and_right (is_text y.body) (is_text m.body && (m.«end» == y.start)) (and_left (is_text m.body) (m.«end» == y.start) plain))
+token_after m y [] plain = grind (arith, cond-false, and_right, and_left)
 token_after m y (z ∷ zs) plain = refl
 
 pub closed_past : (m : Item) (break : Option Item) (chain : List Item) → is_text m.body ≡ false → close_break break (m ∷ chain) ≡ m ∷ close_break break chain
 closed_past m None chain plain = refl
-closed_past m (Some x) chain plain =
-    let s : ℕ = x.start in
-    elim (is_backslash_break x.body)
-    as (λ t. (if t then add_text s (s + 1) false (m ∷ chain) else m ∷ chain) ≡ m ∷ (if t then add_text s (s + 1) false chain else chain)) [
-      | true ↦ add_text-some s (s + 1) false (m ∷ chain) (omega arith) ∙ token_after m (text_token s (s + 1) false) chain plain
-          ∙ ap (λ (c : List Item). m ∷ c) (sym (add_text-some s (s + 1) false chain (omega arith)))
-      | false ↦ refl
-    ]
+closed_past m (Some x) chain plain = grind (arith, add_text-some, token_after)
 
 -- before the first line
 pub so_far_start : (d : Document) (start : ℕ) (old : Forest Item) → IsCharBoundary d.text start → LinesSoFar d start old old (spot start no_braces)
@@ -186,12 +140,7 @@ underlined_by None false v level next e f = cc
 pub break_fits : (d : Document) (ix : Spot) (n : ℕ) (line_break : Option Item)
     → length d.text < 2 ^ 63 → EndsLine (content_at d ix) (n, line_break) → IfSome line_break (λ x. x.start < 2 ^ 63)
 break_fits d ix n None small ends = tt
-break_fits d ix n (Some x) small ends =
-    let within : n ≤ length d.text = ends.within in
-    let b : IsBreak ix.at n x = ends.broken in
-    let p = b.before in
-    let q = b.to in
-    omega arith
+break_fits d ix n (Some x) small ends = grind arith
 
 -- A line of a text is read after the lines so far. Its content begins at a spot, and its tokens are added to the tree,
 -- without the break after it. The next line begins at another offset.
@@ -245,10 +194,7 @@ module _ {d : Document} {start : ℕ} {old : Forest Item} (l : LineRead d start 
 
   -- It ends after the first line of the text, or with it.
   line_later : line_end_at d.text start ≤ l.next
-  line_later = elim l.so_far.from [
-    | inl same ↦ omega (arith, ap (line_end_at d.text) same, l.ends.place)
-    | inr past ↦ omega (arith, l.ends.from)
-  ]
+  line_later = grind arith
 
   -- If the next line continues the text, the lines so far include this line, and the next one begins after it.
   pub so_far_next : (at : ℕ) (new : Forest Item) (found : NextLine)
@@ -273,11 +219,7 @@ module _ {d : Document} {start : ℕ} {old : Forest Item} (l : LineRead d start 
           continues = λ more e t p.
               let later : Document = document d.text d.options more in
               l.so_far.continues more (extends_both more l.names d.names e l.grown) t
-              (subst (λ c. AreTextLines later c ix l.so_far.chain (lines_from d.text (line_end_at d.text ix.at)) t) same_path
-              (lines_more path later ix l.so_far.chain t (line_under more e) goes l.utf8 line_boundary
-              (subst (λ z. AreTextLines later path (spot z l.braces) (add_break l.line_break chain_read) (lines_from d.text (line_end_at d.text z)) t) at_is
-              (subst (λ c. AreTextLines later c (spot at l.braces) (add_break l.line_break chain_read) (lines_from d.text (line_end_at d.text at)) t)
-              (sym same_path) p))));
+              (rw same_path at (lines_more path later ix l.so_far.chain t (line_under more e) goes l.utf8 line_boundary (rw (← same_path, at_is) at p)));
         },
         omega arith,
       )
@@ -295,8 +237,7 @@ module _ {d : Document} {start : ℕ} {old : Forest Item} (l : LineRead d start 
         are = λ more e.
             let later : Document = document d.text d.options more in
             l.so_far.continues more (extends_both more l.names d.names e l.grown) given
-            (subst (λ c. AreTextLines later c l.ix l.so_far.chain (lines_from d.text (line_end_at d.text l.ix.at)) given) same_path
-            (lines_last line_path later l.ix l.so_far.chain (line_under more e) said.0));
+            (rw same_path at (lines_last line_path later l.ix l.so_far.chain (line_under more e) said.0));
         tree_is = chain_is;
         underline = said.1 ∙ ap (option_map (λ (found : ℕ × HeadingLevel). found.1))
             (sym (underline_there line_path d.text n) ∙ ap (λ c. underline_first c (lines_from d.text n)) same_path);
@@ -305,7 +246,7 @@ module _ {d : Document} {start : ℕ} {old : Forest Item} (l : LineRead d start 
         short = break_fits d l.ix n l.line_break small l.ends;
       }
 
--- a paragraph that was just opened, with the marker of its task list item
+-- a paragraph that was just opened, with the task list item marker before it
 pub path_of-paragraph : (options : Options) (g p m : Forest Item) (x : Item) (ix : TreeIndex) (marker : Option Item)
     → container_of options x.body ≡ None → p ≡ pushed (appended g x) ix → m ≡ with_child p marker → ix.0 ≡ length g.nodes
     → AreIn (length g.nodes) g.spine → path_of options m ≡ path_of options g

@@ -1,17 +1,15 @@
 -- The headings that have at most one token, a text.
-use Rattle.std.proofs.Common.{◌≡◌, ◌<◌, ◌≤◌, ℕ, ◌+◌, ◌-◌, ◌==◌, nat_le, nat_lt, min, Bool, true, false, List, [], ◌∷◌, length, take, slice_index, Option}
-use Rattle.std.proofs.Common.{None, Some, is_some, inl, inr, refl, sym, ap, subst, ◌∙◌, arith, slice_index_or, slice_range, eqb-true, ltb-true, ltb-false}
-use Rattle.std.proofs.Common.{le-ltb, lt-ltb, true≢false, option_map}
-use Rattle.first_pass_grammar.proofs.Common.{suffix_len, cases_Bool, cases_lt, cond-true, cond-false, cond_both, none_is, none_mapped, backslash, CowStr}
-use Rattle.first_pass_grammar.proofs.Common.{Item, Options, add_text, add_tokens, close_break, cut, text_token, text_end, breaks_by_backslash}
-use Rattle.first_pass_grammar.proofs.Common.{blanks_at_end, line_end_len, add_pieces, AreLineTokens, IsCell, Inline, text_upto, leaves, add_text-some}
-use Rattle.first_pass_grammar.proofs.Common.{add_text-none, kept_len, heading_chain, Document, document, IsHeading, heading_attribute_block}
-use Rattle.first_pass_grammar.proofs.Common.{before_attributes, heading_attributes_of, text_before_attributes, Names, NamesAttributes, Extends}
-use Rattle.first_pass_grammar.proofs.Common.{HeadingIndex, Braces, no_braces, option_map_or}
+use Rattle.std.proofs.Common.{◌≡◌, ◌<◌, ◌≤◌, ℕ, ◌+◌, ◌-◌, ◌==◌, min, Bool, true, false, List, [], length, take, slice_index, Option, None, is_some, inl, inr}
+use Rattle.std.proofs.Common.{refl, sym, ap, subst, ◌∙◌, arith, slice_range, option_map}
+use Rattle.first_pass_grammar.proofs.Common.{cases_Bool, cases_lt, cond-true, cond-false, cond_both, none_is, none_mapped, backslash, CowStr, Item, Options}
+use Rattle.first_pass_grammar.proofs.Common.{add_text, add_tokens, close_break, cut, text_end, breaks_by_backslash, line_end_len, AreLineTokens, IsCell}
+use Rattle.first_pass_grammar.proofs.Common.{Inline, text_upto, leaves, add_text-some, add_text-none, kept_len, heading_chain, Document, document, IsHeading}
+use Rattle.first_pass_grammar.proofs.Common.{heading_attribute_block, before_attributes, heading_attributes_of, text_before_attributes, Names}
+use Rattle.first_pass_grammar.proofs.Common.{NamesAttributes, Extends, HeadingIndex, Braces, no_braces, option_map_or}
 use Rattle.std.proofs.lemmas.Bool.{eqb-false}
 use Rattle.first_pass_walk.specs.Walk.{is_special, IsNextMarked, MarksSpecial}
 use Rattle.first_pass_tree.specs.Forest.{text_between}
-use Rattle.first_pass_tokens.specs.LineTokens.{line_break, backslashes_at_end, break_of}
+use Rattle.first_pass_tokens.specs.LineTokens.{line_break, backslashes_at_end}
 use Rattle.first_pass_tokens.proofs.LineLemmas.{end_bounded, ends_line}
 use Rattle.first_pass_open.specs.Between.{line_end_at}
 use Rattle.first_pass_text.specs.declared.heading.AttributeBlock.{AttributeBlock}
@@ -22,10 +20,7 @@ use Rattle.first_pass_text.proofs.HeadingLemmas.{chain_none, chain_kept, line_be
 
 -- a single text is a chain by itself
 single : (start to : ℕ) → add_tokens [] (add_text start to false []) ≡ add_text start to false []
-single start to = elim (cases_lt start to) [
-  | inl some ↦ ap (add_tokens []) (add_text-some start to false [] some) ∙ sym (add_text-some start to false [] some)
-  | inr none ↦ ap (add_tokens []) (add_text-none start to false [] none) ∙ sym (add_text-none start to false [] none)
-]
+single start to = grind (arith, cases_lt, add_text-some, add_text-none)
 
 -- an empty chain stays empty
 none_cut : (kept start : ℕ) → heading_chain kept start [] ≡ []
@@ -34,28 +29,7 @@ none_cut kept start = elim (cases_lt 0 kept) [ inl some ↦ chain_kept kept star
 -- a chain of at most a text, cut after the kept bytes
 text_cut : (start to kept : ℕ) → leaves (heading_chain kept start (add_text start to false [])) ≡ text_between start (min (start + kept) to)
 unfolding heading_chain
-text_cut start to kept =
-    let stop : ℕ = min (start + kept) to in
-    elim (cases_lt start to) [
-      | inl some ↦
-          let t : Item = text_token start to false in
-          rw (add_text-some start to false [] some)
-          (cond_both (kept == 0) [] (cut (start + kept) (t ∷ [])) (λ c. leaves c ≡ text_between start stop)
-          (λ none. sym (cond-false _ _ _ (le-ltb start stop (omega (arith, eqb-true kept 0 none)))))
-          (λ more.
-          let before : start < start + kept = omega (arith, eqb-false kept 0 more) in
-          ap leaves (cond-true _ _ _ (lt-ltb start (start + kept) before))
-          ∙ cond_both (nat_lt (start + kept) to) (record t { «end» = start + kept }) t (λ x. leaves (x ∷ []) ≡ text_between start stop)
-          (λ within.
-          let least : stop ≡ start + kept = omega (arith, ltb-true (start + kept) to within) in
-          sym (ap (text_between start) least ∙ cond-true _ _ _ (lt-ltb start (start + kept) before)))
-          (λ past.
-          let least : stop ≡ to = omega (arith, ltb-false (start + kept) to past) in
-          sym (ap (text_between start) least ∙ cond-true _ _ _ (lt-ltb start to some)))))
-      | inr none ↦
-          ap leaves (ap (heading_chain kept start) (add_text-none start to false [] none) ∙ none_cut kept start)
-          ∙ sym (cond-false _ _ _ (le-ltb start stop (omega arith)))
-    ]
+text_cut start to kept = grind (arith, cases_lt, add_text-some, cond_both, cond-false, eqb-false, cond-true, add_text-none, none_cut)
 
 special_backslash : (options : Options) → is_special options backslash ≡ true
 unfolding is_special
@@ -64,47 +38,24 @@ special_backslash options = refl
 -- no backslash is directly before the first special byte
 pub no_backslash : (s : Inline) (lut : List Bool) (end : ℕ) → MarksSpecial lut s.options → IsNextMarked lut s.text s.start end → s.start < end
     → (slice_index s.text (end - 1) == backslash) ≡ false
-no_backslash s lut end m first some =
-    let b : ℕ = slice_index s.text (end - 1) in
-    elim (cases_Bool (b == backslash)) [
-      | inl same ↦
-          let marked : slice_index_or lut backslash false ≡ true = m backslash (omega arith) ∙ special_backslash s.options in
-          absurd (true≢false (sym marked ∙ ap (λ x. slice_index_or lut x false) (sym (eqb-true b backslash same))
-          ∙ first.least (end - 1) (omega (arith, some)) (omega (arith, some))))
-      | inr other ↦ other
-    ]
+no_backslash s lut end m first some = grind (arith, cases_Bool, special_backslash)
 
 module _ (s : Inline) (end : ℕ) (some : s.start < end) (within : end ≤ length s.text) (last : (slice_index s.text (end - 1) == backslash) ≡ false) where
   -- no backslash breaks the line
   unbroken : breaks_by_backslash s end ≡ false
   unfolding breaks_by_backslash backslashes_at_end
-  unbroken =
-      let bound = end_bounded (λ b. b == backslash) s.text s.start end end (omega arith) (omega arith) within (inr (omega arith, last)) in
-      let zero : suffix_len (λ b. b == backslash) (slice_range s.text s.start end) ≡ 0 = omega arith in
-      rw zero refl
+  unbroken = grind (arith, end_bounded)
 
   -- so no backslash of a break is text
   closed : (chain : List Item) → close_break (line_break s end) chain ≡ chain
   unfolding line_break
-  closed chain =
-      cond_both (nat_le (length s.text) end) None _ (λ (o : Option Item). close_break o chain ≡ chain) (λ b. refl)
-      (λ b. subst (λ z. close_break (Some (break_of end (end + line_end_len s end) z (blanks_at_end s end))) chain ≡ chain) (sym unbroken)
-      (cond_both (nat_le 2 (blanks_at_end s end)) _ _ (λ (x : Item). close_break (Some x) chain ≡ chain) (λ hard. refl) (λ soft. refl)))
+  closed chain = grind (arith, cond_both, unbroken)
 
   -- the tokens of the same cell are those of the line
   line_of : {texts : List CowStr} {tokens : List Item} → s.row ≡ false
       → IsCell texts s tokens end s.braces → AreLineTokens texts s tokens (end + line_end_len s end, line_break s end) s.braces
   unfolding text_end
-  line_of {texts} {tokens} plain cell =
-      let stops : text_end s end ≡ end - blanks_at_end s end = cond-false _ _ _ unbroken in
-      record {
-        no_cell = plain;
-        pieces = cell.pieces;
-        content_end = end;
-        division = cell.division;
-        tokens_are = subst (λ n. tokens ≡ add_pieces n s.start cell.pieces []) (sym stops) cell.tokens_are;
-        answer_is = refl;
-      }
+  line_of {texts} {tokens} plain cell = grind (arith, cond-false, unbroken)
 
   -- the heading is plain text
   pub plain_heading : (to kept next text_end : ℕ) → s.row ≡ false

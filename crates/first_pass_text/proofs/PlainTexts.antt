@@ -5,8 +5,8 @@ use Rattle.first_pass_grammar.proofs.Common.{Item, HeadingLevel, Forest, appende
 use Rattle.first_pass_grammar.proofs.Common.{Document, document, TextLines, text_lines, AreTextLines, heading_block, marker_items, Names, Extends}
 use Rattle.first_pass_grammar.proofs.Common.{NamesAttributes, heading_attribute_block, heading_attributes_of, chain_bytes, kept_before, Braces, Options}
 use Rattle.first_pass_grammar.proofs.Common.{option_map_or, underline_first, text_children, plain_text, underlined_text, by_backslash, heading_bytes}
-use Rattle.first_pass_grammar.proofs.Common.{children_without, heading_children, IsUnderlined, Taken, taking, lines_from, TreeIndex, no_braces, spot}
-use Rattle.first_pass_grammar.proofs.Common.{chained, close_break, cut, joins_none-fresh, Paragraph, Heading, none_mapped, some_mapped}
+use Rattle.first_pass_grammar.proofs.Common.{children_without, heading_children, IsUnderlined, Taken, taking, lines_from, TreeIndex, no_braces, spot, chained}
+use Rattle.first_pass_grammar.proofs.Common.{close_break, cut, joins_none-fresh, Paragraph, Heading, none_mapped, some_mapped}
 use Rattle.first_pass_grammar.specs.Leaves.{paragraph_block}
 use Rattle.first_pass_grammar.proofs.Names.MoreNames.{extends_both}
 use Rattle.first_pass_names.specs.TableEntries.{no_names}
@@ -19,7 +19,7 @@ use Rattle.first_pass_open.specs.OpenBlock.{closed_by}
 use Rattle.first_pass_open.proofs.BlockLemmas.{still_open, block_closed, open_place_of, open_item_of, open_named}
 use Rattle.first_pass_text.specs.declared.paragraph.TextEnd.{TextEnd}
 use Rattle.first_pass_text.proofs.OrderHeading.{line_stops}
-use Rattle.first_pass_text.specs.CutTexts.{cut_chain, CutsBlock, BecomesHeading}
+use Rattle.first_pass_text.specs.CutTexts.{cut_chain, BecomesHeading}
 use Rattle.first_pass_text.proofs.AttributeEnds.{cut_none}
 
 -- the break after a chain with a marker before it is closed in the same way
@@ -49,8 +49,8 @@ given text next chain line_break = text_lines chain line_break (lines_from text 
 abbrev pub opened_item : ℕ → Item
 opened_item start = record { start = start; «end» = 0; body = Paragraph }
 
--- A paragraph is open in the tree, with the marker of its task list item and the chain of its lines in it, except the
--- break after the last of them.
+-- A paragraph is open in the tree, with its task list item marker and the chain of its lines in it, except the break
+-- after the last of them.
 pub record StandsOpen (text : List ℕ) (options : Options) (names : Names) (start : ℕ) (marker : Option Item) (g r : Forest Item) (ix : TreeIndex)
     (end : TextEnd) : Type 0 where
   pub chain : List Item
@@ -81,9 +81,7 @@ module _ {text : List ℕ} {options : Options} {read_names : Names} {start : ℕ
   -- the break of the last line is closed, in a block of any kind
   ended : (x : Item) (chain : List Item) (c n : Forest Item) → c ≡ chained (pushed (appended g x) ix) chain → n ≡ with_closed_break c end.line_break
       → n ≡ chained (pushed (appended g x) ix) (close_break end.line_break chain)
-  ended x chain c n c_is n_is =
-      n_is ∙ ap (λ f. with_closed_break f end.line_break) c_is
-      ∙ with_closed_break-chained (pushed (appended g x) ix) chain end.line_break (joins_none-fresh (pushed (appended g x) ix) refl)
+  ended x chain c n c_is n_is = grind (arith, with_closed_break-chained, joins_none-fresh)
 
   -- a paragraph, after its last line is ended
   text_filled : (n : Forest Item)
@@ -92,12 +90,12 @@ module _ {text : List ℕ} {options : Options} {read_names : Names} {start : ℕ
       ended (opened_item start) whole_chain r n t.tree_is is
       ∙ ap (chained (pushed (appended g (opened_item start)) ix)) (closed_marked marker end.line_break t.chain t.plain)
 
-  pub text_open : (n : Forest Item) → n ≡ with_closed_break r end.line_break → IsSome (slice_get n.spine 0)
-  text_open n is = still_open g n (opened_item start) (text_children marker read_lines) ix t.at (text_filled n is)
+  pub text_open : {n : Forest Item} → n ≡ with_closed_break r end.line_break → IsSome (slice_get n.spine 0)
+  text_open {n} is = still_open g n (opened_item start) (text_children marker read_lines) ix t.at (text_filled n is)
 
-  pub closed_paragraph : (n new : Forest Item) → n ≡ with_closed_break r end.line_break → None ≡ end.underline → new ≡ closed_by n end.next n.spine
+  pub closed_paragraph : {n new : Forest Item} → n ≡ with_closed_break r end.line_break → None ≡ end.underline → new ≡ closed_by n end.next n.spine
       → AddsPlainText (document text options read_names) start marker g new end.next
-  closed_paragraph n new n_is said is =
+  closed_paragraph {n} {new} n_is said is =
       let none = none_mapped (λ (found : ℕ × HeadingLevel). found.1) (underline_first (path_of options g) (lines_from text end.next)) (said ∙ t.said) in
       let all : Taken = taking (paragraph_block start end.next (text_children marker read_lines)) (lines_from text end.next) in
       record {
@@ -132,9 +130,9 @@ module _ {text : List ℕ} {options : Options} {read_names : Names} {start : ℕ
       ∙ sym (children_by (document text options no_names) start marker read_lines (Some block) some)
 
   -- a heading, after its attribute block is cut off and its last line is ended
-  module _ (names : Names) (grown : Extends names read_names) (level : HeadingLevel) (broken : Bool) (h n : Forest Item)
-      (broken_is : broken ≡ by_backslash end.line_break)
-      (heads : BecomesHeading (document text options names) level broken ix r h) (n_is : n ≡ with_closed_break h end.line_break) where
+  module _ {names : Names} {level : HeadingLevel} {broken : Bool} {h n : Forest Item} (grown : Extends names read_names)
+      (broken_is : broken ≡ by_backslash end.line_break) (heads : BecomesHeading (document text options names) level broken ix r h)
+      (n_is : n ≡ with_closed_break h end.line_break) where
     abbrev kids : List Item
     kids = heading_children (document text options no_names) start marker read_lines
 
@@ -145,9 +143,7 @@ module _ {text : List ℕ} {options : Options} {read_names : Names} {start : ℕ
         × ((more : Names) → Extends more names → NamesAttributes more heads.index (heading_attributes_of options (chain_bytes text start whole_chain)))
     cut_off =
         let fresh = pushed-fresh g (opened_item start) ix t.at in
-        let cuts =
-        subst (λ (o : Option Item). IfSome o (λ x. CutsBlock (document text options names) x.start broken r heads.cut heads.index)) its_item heads.cuts in
-        cuts (pushed (appended g (opened_item start)) ix) whole_chain (record { last = fresh.0; none = fresh.1 }) t.tree_is
+        (rw its_item at heads.cuts) (pushed (appended g (opened_item start)) ix) whole_chain (record { last = fresh.0; none = fresh.1 }) t.tree_is
 
     heading_filled : n ≡ chained (pushed (appended g heading_item) ix) kids
     heading_filled =
@@ -161,10 +157,9 @@ module _ {text : List ℕ} {options : Options} {read_names : Names} {start : ℕ
     pub heading_open : IsSome (slice_get n.spine 0)
     heading_open = still_open g n heading_item kids ix t.at heading_filled
 
-    pub closed_heading : (new : Forest Item) (next : ℕ)
-        → Some level ≡ end.underline → next ≡ line_end_at text end.next → IsUtf8 text → new ≡ closed_by n next n.spine
-        → AddsPlainText (document text options names) start marker g new next
-    closed_heading new next said next_is utf8 is =
+    pub closed_heading : {new : Forest Item} {next : ℕ} → Some level ≡ end.underline → next ≡ line_end_at text end.next → IsUtf8 text
+        → new ≡ closed_by n next n.spine → AddsPlainText (document text options names) start marker g new next
+    closed_heading {new} {next} said next_is utf8 is =
         let m : ℕ = end.next in
         let (found, found_is, level_is) = some_mapped (λ (found : ℕ × HeadingLevel). found.1) (underline_first (path_of options g) (lines_from text m)) level
         (sym (said ∙ t.said)) in

@@ -1,6 +1,6 @@
 -- A line has only one list of tokens, except for the indices of the texts that they name, and so has a cell.
-use Rattle.std.proofs.Common.{◌≡◌, ℕ, zero, suc, ◌+◌, ◌-◌, Bool, true, false, List, ◌∷◌, length, nat_lt, min, Option, Some, [], refl, sym, ap, subst, ◌∙◌}
-use Rattle.std.proofs.Common.{inl, inr, option_map, true≢false}
+use Rattle.std.proofs.Common.{◌≡◌, ℕ, zero, suc, ◌+◌, Bool, true, false, List, ◌∷◌, length, min, Option, Some, [], refl, sym, ap, subst, ◌∙◌}
+use Rattle.std.proofs.Common.{inl, inr, option_map, true≢false, arith}
 use Rattle.std.proofs.lemmas.List.{get_or_past}
 use Rattle.std.proofs.lemmas.Bool.{cases_lt, cases_Bool, cond_both}
 use Rattle.first_pass_items.specs.declared.cow_str.CowStr.{CowStr}
@@ -16,12 +16,11 @@ use Rattle.first_pass_tokens.specs.declared.pieces.TokenStart.TheVariants.{Ready
 use Rattle.first_pass_tokens.specs.declared.pieces.Piece.{Piece}
 use Rattle.first_pass_tokens.specs.declared.pieces.Piece.TheVariants.{Left, Begins, Token, Run}
 use Rattle.first_pass_tokens.specs.Alike.{text_among, BodiesAlike, ItemsAlike, AreAlike}
-use Rattle.first_pass_tokens.specs.Chains.{text_token, token, run_tokens, touches, add_token, add_tokens, add_text}
+use Rattle.first_pass_tokens.specs.Chains.{token, run_tokens, touches, add_token, add_tokens, add_text}
 use Rattle.first_pass_tokens.specs.Braces.{MathBraces, dollar_context, braces_after}
 use Rattle.first_pass_tokens.specs.NamedTexts.{NamesAmong, MakesPiece}
 use Rattle.first_pass_tokens.specs.Pieces.{Inline, found_at, special_found, special_piece, bracket_piece, size}
-use Rattle.first_pass_tokens.specs.LineTokens.{Spot, spot, content_ends_at, ArePieces, IsInPieces, AreLineTokens, IsCell, add_piece, add_pieces, text_end}
-use Rattle.first_pass_tokens.specs.LineTokens.{blanks_at_end}
+use Rattle.first_pass_tokens.specs.LineTokens.{Spot, content_ends_at, ArePieces, IsInPieces, AreLineTokens, IsCell, add_piece, add_pieces}
 use Rattle.first_pass_tokens.proofs.PieceFacts.{IsFoundAt, found_facts}
 pub use Rattle.first_pass_tokens.proofs.PieceFacts.{names_text, NamesNone}
 
@@ -53,12 +52,6 @@ module _ (texts others : List CowStr) where
   bodies_same (SynthesizeText ix) h = absurd (true≢false h)
   bodies_same _ h = refl
 
-  token_same : (at n : ℕ) (body : ItemBody) → names_text body ≡ false → ItemsAlike texts others (token at n body) (token at n body)
-  token_same at n body h = record { starts = refl; ends = refl; bodies = bodies_same body h }
-
-  touch_alike : (x y u v : Item) → ItemsAlike texts others x u → ItemsAlike texts others y v → touches x y ≡ touches u v
-  touch_alike x y u v h k = rw (bodies_text y.body v.body k.bodies, bodies_text x.body u.body h.bodies, h.ends, k.starts) refl
-
   -- a token after each of two chains
   pub alike_add : (xs us : List Item) (y v : Item) → AreAlike texts others xs us → ItemsAlike texts others y v
       → AreAlike texts others (add_token xs y) (add_token us v)
@@ -66,7 +59,8 @@ module _ (texts others : List CowStr) where
   alike_add [] (u ∷ us) y v h k = absurd h
   alike_add (x ∷ xs) [] y v h k = absurd h
   alike_add (x ∷ []) (u ∷ []) y v h k =
-      let same = touch_alike x y u v h.0 k in
+      let same : touches x y ≡ touches u v =
+      rw (bodies_text y.body v.body k.bodies, bodies_text x.body u.body h.0.bodies, h.0.ends, k.starts) refl in
       elim (cases_Bool (touches x y)) [
         | inl joins ↦ rw (joins, sym same ∙ joins) (record { starts = h.0.starts; ends = k.ends; bodies = h.0.bodies }, tt)
         | inr apart ↦ rw (apart, sym same ∙ apart) (h.0, (k, tt))
@@ -77,18 +71,14 @@ module _ (texts others : List CowStr) where
 
   pub alike_text : (from to : ℕ) (escaped : Bool) (xs us : List Item) → AreAlike texts others xs us
       → AreAlike texts others (add_text from to escaped xs) (add_text from to escaped us)
-  alike_text from to escaped xs us h =
-      elim (cases_Bool (nat_lt from to)) [
-        | inl some ↦ let x = text_token from to escaped in rw some (alike_add xs us x x h (record { starts = refl; ends = refl; bodies = refl }))
-        | inr none ↦ rw none h
-      ]
+  alike_text from to escaped xs us h = grind (arith, cases_Bool, alike_add)
 
   alike_run : (at n : ℕ) (opens closes : Bool) (xs us : List Item) → AreAlike texts others xs us
       → AreAlike texts others (add_tokens xs (run_tokens at n opens closes)) (add_tokens us (run_tokens at n opens closes))
   alike_run at zero opens closes xs us h = h
   alike_run at (suc n) opens closes xs us h =
       let x = token at 1 (MaybeEmphasis (suc n) opens closes) in
-      alike_run (at + 1) n opens closes (add_token xs x) (add_token us x) (alike_add xs us x x h (token_same at 1 (MaybeEmphasis (suc n) opens closes) refl))
+      alike_run (at + 1) n opens closes (add_token xs x) (add_token us x) (alike_add xs us x x h (record { starts = refl; ends = refl; bodies = refl }))
 
   -- two pieces are equal; or they are tokens of the same bytes, of kinds that are alike
   abbrev PiecesAlike : Piece → Piece → Type 0
@@ -103,8 +93,7 @@ module _ (texts others : List CowStr) where
       → AreAlike texts others (add_piece stop at p xs) (add_piece stop at q us)
   alike_piece stop at (Left n) q xs us h are = rw h (alike_text at (min (at + n) stop) false xs us are)
   alike_piece stop at (Begins dropped escaped) q xs us h are = rw h (alike_text (at + dropped) (min (at + (dropped + 1)) stop) escaped xs us are)
-  alike_piece stop at (Token dropped n body) q xs us h are =
-      rw h.1 (alike_add xs us (token (at + dropped) n body) (token (at + dropped) n h.0) are (record { starts = refl; ends = refl; bodies = h.2 }))
+  alike_piece stop at (Token dropped n body) q xs us h are = grind (arith, alike_add)
   alike_piece stop at (Run n opens closes) q xs us h are = rw h (alike_run at n opens closes xs us are)
 
   piece_same : (p : Piece) → NamesNone p → PiecesAlike p p
@@ -151,23 +140,9 @@ module _ (texts others : List CowStr) where
   pub one_line : (s : Inline) (tokens more : List Item) (a b : ℕ × Option Item) (c d : MathBraces) → AreLineTokens texts s tokens a c
       → AreLineTokens others s more b d
       → AreAlike texts others tokens more × (a ≡ b) × (c ≡ d)
-  one_line s tokens more a b c d h k =
-      let same = one_division s h.pieces k.pieces (spot h.content_end c) (spot k.content_end d) h.division k.division in
-      let are = same.gives (text_end s h.content_end) [] [] tt in
-      let ends : h.content_end ≡ k.content_end = ap (λ (t : Spot). t.at) same.ends in (
-        rw (h.tokens_are, k.tokens_are, ← ends) are,
-        rw (h.answer_is, k.answer_is, ends) refl,
-        ap (λ (t : Spot). t.braces) same.ends,
-      )
+  one_line s tokens more a b c d h k = grind (arith, one_division)
 
   -- a cell has only one list of tokens, except for the indices, and one end
   pub one_cell : (s : Inline) (tokens more : List Item) (a b : ℕ) (c d : MathBraces) → IsCell texts s tokens a c → IsCell others s more b d
       → AreAlike texts others tokens more × (a ≡ b) × (c ≡ d)
-  one_cell s tokens more a b c d h k =
-      let same = one_division s h.pieces k.pieces (spot a c) (spot b d) h.division k.division in
-      let are = same.gives (a - blanks_at_end s a) [] [] tt in
-      let ends : a ≡ b = ap (λ (t : Spot). t.at) same.ends in (
-        rw (h.tokens_are, k.tokens_are, ← ends) are,
-        ends,
-        ap (λ (t : Spot). t.braces) same.ends,
-      )
+  one_cell s tokens more a b c d h k = grind (arith, one_division)

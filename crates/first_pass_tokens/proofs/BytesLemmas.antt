@@ -1,56 +1,43 @@
 -- Each token of a chain has a byte, so a chain in order has at most as many tokens as bytes.
-use Rattle.std.proofs.Common.{◌≡◌, ℕ, zero, suc, ◌+◌, ◌-◌, ◌≤◌, ◌<◌, ◌==◌, ◌&&◌, Bool, false, List, ◌∷◌, ◌++◌, length, Option, Some, None, nat_lt, [], inl}
-use Rattle.std.proofs.Common.{inr, refl, ap, arith, eqb-true, ltb-true, length-append}
-use Rattle.std.proofs.lemmas.Bool.{cases_Bool, and_parts, cond_both}
+use Rattle.std.proofs.Common.{◌≡◌, ℕ, zero, suc, ◌+◌, ◌-◌, ◌≤◌, ◌<◌, ◌&&◌, false, List, ◌∷◌, ◌++◌, length, Option, Some, None, []}
+use Rattle.std.proofs.Common.{refl, sym, ap, subst, arith, length-append}
+use Rattle.std.proofs.lemmas.Bool.{cases_Bool, cond_both}
 use Rattle.first_pass_items.specs.declared.cow_str.CowStr.{CowStr}
 use Rattle.first_pass_tokens.specs.Braces.{MathBraces}
 use Rattle.first_pass_items.specs.declared.item.Item.{Item}
 use Rattle.first_pass_tree.specs.declared.tree_index.TreeIndex.{TreeIndex}
-use Rattle.first_pass_tree.specs.Forest.{Forest, is_text, is_escaped, modify, joins_at, with_end, appended}
+use Rattle.first_pass_tree.specs.Forest.{Forest, is_text, modify, joins_at, with_end, appended}
 use Rattle.first_pass_tokens.specs.Pieces.{Inline}
-use Rattle.first_pass_tokens.specs.Chains.{text_token, touches, add_token, add_tokens, add_text, is_backslash_break, close_break, cut}
+use Rattle.first_pass_tokens.specs.Chains.{text_token, add_token, add_tokens, add_text, is_backslash_break, close_break, cut}
 use Rattle.first_pass_tokens.specs.LineTokens.{AreLineTokens, IsCell, line_end_len}
 use Rattle.first_pass_tokens.specs.TreeTokens.{with_token, with_tokens, AppendsLine, AppendsCell}
 use Rattle.first_pass_tokens.proofs.InOrder.{AreInOrder, HaveBytes}
+use Rattle.first_pass_tokens.proofs.ChainLemmas.{add_text-some, add_token-by}
 use Rattle.first_pass_tokens.proofs.LineLemmas.{cell_keeps, line_keeps}
 
 -- a chain in order has at most as many items as bytes
 pub few_in_order : (text : List ℕ) (from to : ℕ) (chain : List Item) → AreInOrder text from to chain → HaveBytes chain → length chain + from ≤ to
 few_in_order text from to [] h k = omega arith
-few_in_order text from to (x ∷ xs) h k =
-    let node_bound = few_in_order text x.«end» to xs h.4 k.1 in
-    omega (arith, h.0, k.0)
+few_in_order text from to (x ∷ xs) h k = grind (arith, few_in_order text x.«end» to xs h.4 k.1)
 
 -- a token is appended
 pub bytes_add : (chain : List Item) (y : Item) → y.start < y.«end» → HaveBytes chain → HaveBytes (add_token chain y)
-bytes_add [] y some h = (some, tt)
-bytes_add (x ∷ []) y some h =
-    cond_both (touches x y) (record x { «end» = y.«end» } ∷ []) (x ∷ y ∷ []) HaveBytes
-    (λ b.
-    let following =
-    eqb-true x.«end» y.start (and_parts (is_text x.body) (x.«end» == y.start) (and_parts (is_text y.body) (is_text x.body && (x.«end» == y.start)) b).1).1 in
-    (omega (arith, h.0), tt))
-    (λ b. (h.0, (some, tt)))
-bytes_add (x ∷ z ∷ zs) y some h = (h.0, bytes_add (z ∷ zs) y some h.1)
+bytes_add chain y some =
+    add_token-by (λ xs ys. HaveBytes xs → HaveBytes ys) y (λ h. (some, tt)) (λ x t first second place h. (omega (arith, h.0), tt))
+    (λ x xs ys add h. (h.0, add h.1)) chain
 
 -- tokens are appended
 pub bytes_adds : (chain tokens : List Item) → HaveBytes tokens → HaveBytes chain → HaveBytes (add_tokens chain tokens)
 bytes_adds chain [] k h = h
 bytes_adds chain (x ∷ xs) k h = bytes_adds (add_token chain x) xs k.1 (bytes_add chain x k.0 h)
 
--- a text is appended, or nothing
-pub bytes_text : (a b : ℕ) (escaped : Bool) (chain : List Item) → HaveBytes chain → HaveBytes (add_text a b escaped chain)
-bytes_text a b escaped chain h =
-    cond_both (nat_lt a b) (add_token chain (text_token a b escaped)) chain HaveBytes
-    (λ some. bytes_add chain (text_token a b escaped) (ltb-true a b some) h)
-    (λ none. h)
-
 -- the backslash of the break of the last line is appended, or nothing
 pub bytes_closed : (break : Option Item) (chain : List Item) → HaveBytes chain → HaveBytes (close_break break chain)
 bytes_closed None chain h = h
 bytes_closed (Some x) chain h =
     cond_both (is_backslash_break x.body) (add_text x.start (x.start + 1) false chain) chain HaveBytes
-    (λ b. bytes_text x.start (x.start + 1) false chain h) (λ b. h)
+    (λ b. subst HaveBytes (sym (add_text-some x.start (x.start + 1) false chain (omega arith)))
+    (bytes_add chain (text_token x.start (x.start + 1) false) (omega arith) h)) (λ b. h)
 
 -- another chain is appended
 pub bytes_append : (xs ys : List Item) → HaveBytes xs → HaveBytes ys → HaveBytes (xs ++ ys)
@@ -65,20 +52,12 @@ line_has_bytes {texts} {s} line = line_keeps s (λ at. HaveBytes) (λ at to chai
 -- a chain does not get longer when it is cut
 pub cut_few : (e : ℕ) (chain : List Item) → length (cut e chain) ≤ length chain
 cut_few e [] = omega arith
-cut_few e (x ∷ xs) =
-    let bound = cut_few e xs in
-    elim (cases_Bool (nat_lt x.start e)) [
-      | inl before ↦ rw before (omega arith)
-      | inr following ↦ rw following (elim (cases_Bool (is_escaped x.body && (x.start == e))) [ inl b ↦ rw b (omega arith) | inr b ↦ rw b (omega arith) ])
-    ]
+cut_few e (x ∷ xs) = grind (arith, cases_Bool, cut_few e xs)
 
 -- a token makes a chain longer by one at most
 pub few_add : (chain : List Item) (y : Item) → length (add_token chain y) ≤ length chain + 1
-few_add [] y = omega arith
-few_add (x ∷ []) y =
-    cond_both (touches x y) (record x { «end» = y.«end» } ∷ []) (x ∷ y ∷ [])
-    (λ (ys : List Item). length ys ≤ length (x ∷ []) + 1) (λ b. omega arith) (λ b. omega arith)
-few_add (x ∷ z ∷ zs) y = (let node_bound = few_add (z ∷ zs) y in omega arith)
+few_add chain y =
+    add_token-by (λ xs ys. length ys ≤ length xs + 1) y (omega arith) (λ x t first second place. omega arith) (λ x xs ys add. omega arith) chain
 
 -- A cell has at most as many tokens as bytes.
 pub few_in_cell : {texts : List CowStr} {s : Inline} {tokens : List Item} {end : ℕ} {after : MathBraces}
@@ -86,16 +65,6 @@ pub few_in_cell : {texts : List CowStr} {s : Inline} {tokens : List Item} {end :
 few_in_cell {texts} {s} cell =
     cell_keeps s (λ at chain. length chain + s.start ≤ at) (λ at to chain order h. omega arith)
     (λ at chain x is h. omega (arith, few_add chain x, is.from, is.some)) cell (omega arith)
-
--- A line has at most as many tokens as bytes.
-pub few_in_line : {texts : List CowStr} {s : Inline} {tokens : List Item} {answer : ℕ × Option Item} {after : MathBraces}
-    → AreLineTokens texts s tokens answer after → length tokens + s.start ≤ answer.0
-few_in_line {texts} {s} {tokens} {answer} {after} line =
-    let node_bound : length tokens + s.start ≤ line.content_end =
-    line_keeps s (λ at chain. length chain + s.start ≤ at) (λ at to chain order h. omega arith)
-    (λ at chain x is h. omega (arith, few_add chain x, is.from, is.some)) line (omega arith) in
-    let answer_is : answer.0 ≡ line.content_end + line_end_len s line.content_end = ap (λ (a : ℕ × Option Item). a.0) line.answer_is in
-    omega arith
 
 pub length-modify : (nodes : List (ℕ × Item)) (i : ℕ) (g : Item → Item) → length (modify nodes i g) ≡ length nodes
 length-modify [] i g = refl
@@ -115,10 +84,7 @@ few_token f x =
 
 few_tokens : (f : Forest Item) (tokens : List Item) → length (with_tokens f tokens).nodes ≤ length f.nodes + length tokens
 few_tokens f [] = omega arith
-few_tokens f (x ∷ xs) =
-    let first = few_token f x in
-    let rest = few_tokens (with_token f x) xs in
-    omega arith
+few_tokens f (x ∷ xs) = grind (arith, few_token, few_tokens (with_token f x) xs)
 
 few_after : (old new : Forest Item) (tokens : List Item) (start end : ℕ) → new ≡ with_tokens old tokens → length tokens + start ≤ end
     → length new.nodes ≤ length old.nodes + (end - start)
@@ -127,7 +93,13 @@ few_after old new tokens start end is few = omega (arith, ap (λ (f : Forest Ite
 -- at most as many nodes are appended for a line as it has bytes
 pub few_of_line : {texts : List CowStr} {s : Inline} {old new : Forest Item} {answer : ℕ × Option Item} {after : MathBraces}
     → AppendsLine texts s old new answer after → length new.nodes ≤ length old.nodes + (answer.0 - s.start)
-few_of_line {texts} {s} {old} {new} {answer} line = few_after old new line.tokens s.start answer.0 line.tree_is (few_in_line line.line)
+few_of_line {texts} {s} {old} {new} {answer} appended =
+    let line = appended.line in
+    let few : length appended.tokens + s.start ≤ line.content_end =
+    line_keeps s (λ at chain. length chain + s.start ≤ at) (λ at to chain order h. omega arith)
+    (λ at chain x is h. omega (arith, few_add chain x, is.from, is.some)) line (omega arith) in
+    let answer_is : answer.0 ≡ line.content_end + line_end_len s line.content_end = ap (λ (a : ℕ × Option Item). a.0) line.answer_is in
+    few_after old new appended.tokens s.start answer.0 appended.tree_is (omega arith)
 
 -- and so for a cell
 pub few_of_cell : {texts : List CowStr} {s : Inline} {old new : Forest Item} {end : ℕ} {after : MathBraces}

@@ -1,5 +1,5 @@
 -- Each pipe in the content of a cell is directly after a backslash.
-use Rattle.std.proofs.Common.{◌≡◌, ℕ, ◌+◌, ◌-◌, ◌≤◌, ◌<◌, true, false, List, [], ◌∷◌, slice_index, sym, ap, ◌∙◌, inl, inr, arith, ◌==◌, eq-eqb}
+use Rattle.std.proofs.Common.{◌≡◌, ℕ, ◌+◌, ◌-◌, ◌≤◌, ◌<◌, true, false, List, [], ◌∷◌, slice_index, ap, inl, inr, arith, ◌==◌}
 use Rattle.std.proofs.lemmas.Bool.{cases_lt, false≢true}
 use Rattle.first_pass_items.specs.Bytes.{backslash, pipe}
 use Rattle.first_pass_items.specs.OptionWords.{has, tables}
@@ -18,30 +18,16 @@ use Rattle.first_pass_tokens.proofs.LineLemmas.{piece_of, not_ended_pipe}
 -- a pipe in a piece, after the first byte of the piece
 pipe_inside : (text : List ℕ) (at : ℕ) (p : Piece) (k : ℕ) → IsPieceAt text at p → (slice_index text at == pipe) ≡ false → at < k → k < at + size p
     → slice_index text k ≡ pipe → slice_index text (k - 1) ≡ backslash
-pipe_inside text at (Left n) k facts other low high is_pipe =
-    absurd (false≢true (sym other ∙ eq-eqb (slice_index text at) pipe (sym (facts.same k (omega arith) high) ∙ is_pipe)))
-pipe_inside text at (Run n opens closes) k facts other low high is_pipe =
-    absurd (false≢true (sym (mark_facts (slice_index text k) (facts.marks k (omega arith) high)).no_pipe ∙ eq-eqb (slice_index text k) pipe is_pipe))
-pipe_inside text at (Begins dropped escaped) k facts other low high is_pipe =
-    elim (cases_lt k (at + dropped)) [
-      | inl inside ↦ let byte = facts.backslashes k (omega arith) inside in absurd (omega arith)
-      | inr last ↦ facts.backslashes (k - 1) (omega arith) (omega (arith, facts.some))
-    ]
-pipe_inside text at (Token dropped n body) k facts other low high is_pipe =
-    let mark = mark_facts (slice_index text k) (facts.marks k (omega (arith, facts.bound)) (omega arith)) in
-    absurd (false≢true (sym mark.no_pipe ∙ eq-eqb (slice_index text k) pipe is_pipe))
+pipe_inside text at (Left n) k facts other low high is_pipe = grind (arith, false≢true)
+pipe_inside text at (Run n opens closes) k facts other low high is_pipe = grind (arith, false≢true, mark_facts)
+pipe_inside text at (Begins dropped escaped) k facts other low high is_pipe = grind (arith, cases_lt)
+pipe_inside text at (Token dropped n body) k facts other low high is_pipe = grind (arith, mark_facts, false≢true)
 
 module _ (s : Inline) (row : s.row ≡ true) (on : has s.options tables ≡ true) where
   pipe_in : (texts : List CowStr) (b : MathBraces) (at : ℕ) (p : Piece)
       → content_ends_at s at ≡ false → MakesPiece texts b (found_at s at) p → (k : ℕ) → at ≤ k → k < at + size p → slice_index s.text k ≡ pipe
       → (at < k) × (slice_index s.text (k - 1) ≡ backslash)
-  pipe_in texts b at p runs is k low high is_pipe =
-      elim (cases_lt at k) [
-        | inl more ↦ (more, pipe_inside s.text at p k (piece_of texts b s at p runs is) (not_ended_pipe s at row on runs) more high is_pipe)
-        | inr none ↦
-            let same : at ≡ k = omega arith in
-            absurd (false≢true (sym (not_ended_pipe s at row on runs) ∙ eq-eqb (slice_index s.text at) pipe (ap (slice_index s.text) same ∙ is_pipe)))
-      ]
+  pipe_in texts b at p runs is k low high is_pipe = grind (arith, cases_lt, pipe_inside, piece_of, not_ended_pipe, false≢true)
 
   pipes_from : (texts : List CowStr) (at : ℕ) (b : MathBraces) (ps : List Piece) (to : Spot) → ArePieces texts s at b ps to → PipesAreEscaped s.text at to.at
   pipes_from texts at b [] to is k low high is_pipe = (let same : at ≡ to.at = ap (λ (t : Spot). t.at) is in absurd (omega arith))

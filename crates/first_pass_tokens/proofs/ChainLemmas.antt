@@ -1,13 +1,12 @@
 -- Chains and trees: the token that is added or joined, the chain after a cut, and the block that a chain closes to.
-use Rattle.std.proofs.Common.{ℕ, suc, zero, ◌≡◌, ◌+◌, ◌≤◌, ◌<◌, ◌==◌, ◌&&◌, Bool, true, false, List, ◌∷◌, ◌++◌, length, take, drop, Option, Some, None, []}
+use Rattle.std.proofs.Common.{ℕ, suc, zero, ◌≡◌, ◌+◌, ◌≤◌, ◌<◌, ◌==◌, ◌&&◌, Bool, true, false, List, ◌∷◌, ◌++◌, length, take, Option, Some, None, []}
 use Rattle.std.proofs.Common.{nat_lt, slice_get, slice_index, refl, sym, ap, ◌∙◌, inl, inr, arith, length-append, append_assoc, option_map, append-nil}
-use Rattle.std.proofs.Common.{lt-ltb, le-ltb, ltb-true, ltb-false, eq-eqb, ne_eqb}
+use Rattle.std.proofs.Common.{lt-ltb, le-ltb, ltb-true, ltb-false, eq-eqb, eqb-true, ne_eqb}
 use Rattle.std.proofs.Math.Seq.{take-append_seam, drop-append_seam}
-use Rattle.std.proofs.lemmas.Bool.{cond-true, cond-false, cond_both, cases_Bool, cases_lt, and_parts, and_from, and_left, and_right}
-use Rattle.std.proofs.lemmas.Bool.{false≢true}
+use Rattle.std.proofs.lemmas.Bool.{cond-true, cond-false, cond_both, cases_Bool, cases_lt, and_parts, and_from, and_left, and_right, false≢true}
 use Rattle.first_pass_items.specs.declared.item.Item.{Item}
 use Rattle.first_pass_tree.specs.declared.tree_index.TreeIndex.{TreeIndex}
-use Rattle.first_pass_tree.specs.Forest.{Forest, depths, item_at, modify, modified, appended, pushed, popped, childless, is_text, is_escaped, cut_item}
+use Rattle.first_pass_tree.specs.Forest.{Forest, depths, item_at, modify, modified, appended, pushed, popped, childless, is_text}
 use Rattle.first_pass_tree.specs.Forest.{cut_tokens, cut_siblings, last_before, last_child, open_place, HasLeaves, ends_text_at, joins_at, with_end}
 use Rattle.first_pass_tree.specs.Forest.{with_end_at, with_text, at_depth, added, block_of, text_between}
 use Rattle.first_pass_tree.proofs.Blocks.{modify-at, forest-eq, block-built}
@@ -26,6 +25,19 @@ add_text-some from to escaped chain some = cond-true _ _ _ (lt-ltb from to some)
 pub leaves_text : (from to : ℕ) → leaves (add_text from to false []) ≡ text_between from to
 leaves_text from to = elim (cases_Bool (nat_lt from to)) [ inl some ↦ rw some refl | inr none ↦ rw none refl ]
 
+-- A relation holds between each chain and the chain with one more token if it holds for the empty chain and for a text that is joined, and
+-- if a token at the front of both keeps it.
+pub add_token-by : (R : List Item → List Item → Type 0) (y : Item) → R [] (y ∷ [])
+    → ((x : Item) → touches x y ≡ true → is_text x.body ≡ true → is_text y.body ≡ true → x.«end» ≡ y.start → R (x ∷ []) (record x { «end» = y.«end» } ∷ []))
+    → ((x : Item) (xs ys : List Item) → R xs ys → R (x ∷ xs) (x ∷ ys)) → (chain : List Item) → R chain (add_token chain y)
+add_token-by R y none joined more [] = none
+add_token-by R y none joined more (x ∷ []) =
+    cond_both (touches x y) (record x { «end» = y.«end» } ∷ []) (x ∷ y ∷ []) (R (x ∷ []))
+    (λ b. let (second, rest) = and_parts (is_text y.body) (is_text x.body && (x.«end» == y.start)) b in
+    let (first, place) = and_parts (is_text x.body) (x.«end» == y.start) rest in joined x b first second (eqb-true x.«end» y.start place))
+    (λ b. more x [] (y ∷ []) none)
+add_token-by R y none joined more (x ∷ z ∷ zs) = more x (z ∷ zs) (add_token (z ∷ zs) y) (add_token-by R y none joined more (z ∷ zs))
+
 -- the first token of a chain stays at its place
 add_token-cons : (x z : Item) (zs : List Item) (t u : Item) → add_token (x ∷ add_token (z ∷ zs) t) u ≡ x ∷ add_token (add_token (z ∷ zs) t) u
 add_token-cons x z [] t u = cond_both (touches z t) _ _ (λ (ys : List Item). add_token (x ∷ ys) u ≡ x ∷ add_token ys u) (λ b. refl) (λ b. refl)
@@ -39,33 +51,17 @@ add_token-longer x at to text = cond-true (is_text x.body && (at == at)) _ _ (an
 add_token-joined : (chain : List Item) (from mid to : ℕ) (escaped : Bool)
     → add_token (add_token chain (text_token from mid escaped)) (text_token mid to false) ≡ add_token chain (text_token from to escaped)
 add_token-joined [] from mid to escaped = cond-true _ _ _ (eq-eqb mid mid refl)
-add_token-joined (x ∷ []) from mid to escaped =
-    elim (cases_Bool (is_text x.body && (x.«end» == from))) [
-      | inl joins ↦ rw joins (add_token-longer x mid to (and_parts _ _ joins).0)
-      | inr apart ↦ rw apart (ap (λ (ys : List Item). x ∷ ys) (cond-true _ _ _ (eq-eqb mid mid refl)))
-    ]
-add_token-joined (x ∷ z ∷ zs) from mid to escaped =
-    add_token-cons x z zs (text_token from mid escaped) (text_token mid to false)
-    ∙ ap (λ (ys : List Item). x ∷ ys) (add_token-joined (z ∷ zs) from mid to escaped)
+add_token-joined (x ∷ []) from mid to escaped = grind (arith, cases_Bool, add_token-longer, and_parts, cond-true)
+add_token-joined (x ∷ z ∷ zs) from mid to escaped = grind (arith, add_token-cons, add_token-joined (z ∷ zs) from mid to escaped)
 
 -- a text that is not empty and the text directly after it are one text
 pub add_text-joined : (from mid to : ℕ) (escaped : Bool) (chain : List Item)
     → from < mid → mid ≤ to → add_text mid to false (add_text from mid escaped chain) ≡ add_text from to escaped chain
-add_text-joined from mid to escaped chain first order =
-    elim (cases_lt mid to) [
-      | inl more ↦
-          add_text-some mid to false _ more ∙ ap (λ (ys : List Item). add_token ys (text_token mid to false)) (add_text-some from mid escaped chain first)
-          ∙ add_token-joined chain from mid to escaped ∙ sym (add_text-some from to escaped chain (omega arith))
-      | inr none ↦
-          let same : to ≡ mid = omega arith in
-          add_text-none mid to false _ none ∙ ap (λ (x : ℕ). add_text from x escaped chain) (sym same)
-    ]
+add_text-joined from mid to escaped chain first order = grind (arith, cases_lt, add_text-some, add_token-joined, add_text-none)
 
 -- a chain in which no token touches another
 apart_past : (x z : Item) (zs : List Item) (t : Item) → touches x z ≡ false → AreApart (add_token (z ∷ zs) t) → AreApart (x ∷ add_token (z ∷ zs) t)
-apart_past x z [] t apart =
-    cond_both (touches z t) (record z { «end» = t.«end» } ∷ []) (z ∷ t ∷ [])
-    (λ (ys : List Item). AreApart ys → AreApart (x ∷ ys)) (λ b h. (apart, tt)) (λ b h. (apart, h))
+apart_past x z [] t apart = grind (arith, cond_both)
 apart_past x z (w ∷ ws) t apart = λ h. (apart, h)
 
 pub add_token-apart : (chain : List Item) (t : Item) → AreApart chain → AreApart (add_token chain t)
@@ -124,10 +120,7 @@ touches_appended : (f : Forest Item) (y x : Item) → (is_text x.body && joins_a
 touches_appended f y x = ap (λ (b : Bool). is_text x.body && b) (joins_appended f y x.start)
 
 joined_last : (f : Forest Item) (y x : Item) → touches y x ≡ true → with_token (appended f y) x ≡ appended f (record y { «end» = x.«end» })
-joined_last f y x t =
-    cond-true _ _ _ (touches_appended f y x ∙ t)
-    ∙ ap (λ (ns : List (ℕ × Item)). record (appended f y) { nodes = ns })
-    (modify-at f.nodes [] (length f.spine + 1, y) (length f.nodes) (λ z. record z { «end» = x.«end» }) refl)
+joined_last f y x t = grind (arith, cond-true, touches_appended, modify-at)
 
 joined_current : (f : Forest Item) (o : Option TreeIndex) (y x : Item)
     → f.current ≡ o → joins_at f y.start o ≡ true → touches y x ≡ true → with_token (with_end f y.«end» o) x ≡ with_end f x.«end» o
@@ -143,22 +136,13 @@ joined_current f (Some c) y x is joins t =
 
 -- two tokens that touch are one
 with_token-joined : (f : Forest Item) (y x : Item) → touches y x ≡ true → with_token f (record y { «end» = x.«end» }) ≡ with_token (with_token f y) x
-with_token-joined f y x t =
-    elim (cases_Bool (is_text y.body && joins_at f y.start f.current)) [
-      | inl joins ↦ cond-true _ _ _ joins
-          ∙ sym (ap (λ (g : Forest Item). with_token g x) (cond-true _ _ _ joins) ∙ joined_current f f.current y x refl (and_parts _ _ joins).1 t)
-      | inr apart ↦ cond-false _ _ _ apart ∙ sym (ap (λ (g : Forest Item). with_token g x) (cond-false _ _ _ apart) ∙ joined_last f y x t)
-    ]
+with_token-joined f y x t = grind (arith, cases_Bool, cond-true, joined_current, and_parts, cond-false, joined_last)
 
 -- appending a chain and then a token to the tree is appending the chain with the token
 pub with_tokens-add : (f : Forest Item) (chain : List Item) (x : Item) → with_tokens f (add_token chain x) ≡ with_token (with_tokens f chain) x
-with_tokens-add f [] x = refl
-with_tokens-add f (y ∷ []) x =
-    elim (cases_Bool (touches y x)) [
-      | inl joins ↦ ap (with_tokens f) (cond-true _ _ _ joins) ∙ with_token-joined f y x joins
-      | inr apart ↦ ap (with_tokens f) (cond-false _ _ _ apart)
-    ]
-with_tokens-add f (y ∷ z ∷ zs) x = with_tokens-add (with_token f y) (z ∷ zs) x
+with_tokens-add f chain x =
+    add_token-by (λ ys zs. (g : Forest Item) → with_tokens g zs ≡ with_token (with_tokens g ys) x) x (λ g. refl)
+    (λ y t first second place g. with_token-joined g y x t) (λ y ys zs add g. add (with_token g y)) chain f
 
 pub with_tokens-adds : (f : Forest Item) (chain xs : List Item) → with_tokens f (add_tokens chain xs) ≡ with_tokens (with_tokens f chain) xs
 with_tokens-adds f chain [] = refl
@@ -177,10 +161,7 @@ with_text-some f s e b some = cond-false _ _ _ (ne_eqb s e (λ same. omega arith
 -- a text appended to the tree with a chain
 pub with_tokens-text : (f : Forest Item) (chain : List Item) (s e : ℕ) (b : Bool)
     → s ≤ e → with_tokens f (add_text s e b chain) ≡ with_text (with_tokens f chain) s e b
-with_tokens-text f chain s e b order =
-    cond_both (nat_lt s e) (add_token chain (text_token s e b)) chain (λ (ys : List Item). with_tokens f ys ≡ with_text (with_tokens f chain) s e b)
-    (λ some. with_tokens-add f chain (text_token s e b) ∙ sym (with_text-some (with_tokens f chain) s e b (ltb-true s e some)))
-    (λ none. sym (with_text-none (with_tokens f chain) s e b (omega (arith, ltb-false s e none))))
+with_tokens-text f chain s e b order = grind (arith, cond_both, with_tokens-add, with_text-some, with_text-none)
 
 pub with_token-plain : (f : Forest Item) (x : Item) → is_text x.body ≡ false → with_token f x ≡ appended f x
 with_token-plain f x plain = cond-false _ _ _ (and_left _ _ plain)
@@ -194,11 +175,7 @@ joins_none-appended f x plain at = joins_appended f x at ∙ and_left _ _ plain
 
 -- a token after a chain that is not empty
 pub with_token-following : (f : Forest Item) (y : Item) (ys : List Item) (x : Item) → with_token (chained f (y ∷ ys)) x ≡ chained f (add_token (y ∷ ys) x)
-with_token-following f y [] x =
-    elim (cases_Bool (touches y x)) [
-      | inl joins ↦ joined_last f y x joins ∙ ap (chained f) (sym (cond-true _ _ _ joins))
-      | inr apart ↦ cond-false _ _ _ (touches_appended f y x ∙ apart) ∙ ap (chained f) (sym (cond-false _ _ _ apart))
-    ]
+with_token-following f y [] x = grind (arith, cases_Bool, joined_last, cond-true, cond-false, touches_appended)
 with_token-following f y (z ∷ zs) x = with_token-following (appended f y) z zs x
 
 pub with_token-chained : (f : Forest Item) (chain : List Item) (x : Item) → JoinsNone f → with_token (chained f chain) x ≡ chained f (add_token chain x)
@@ -218,13 +195,12 @@ with_text-chained f chain s e b none order =
     (λ some. with_text-some (chained f chain) s e b (ltb-true s e some) ∙ with_token-chained f chain (text_token s e b) none)
     (λ empty. with_text-none (chained f chain) s e b (omega (arith, ltb-false s e empty)))
 
-pub appended-chained : (f : Forest Item) (chain : List Item) (x : Item) → appended (chained f chain) x ≡ chained f (chain ++ x ∷ [])
-appended-chained f [] x = refl
-appended-chained f (y ∷ ys) x = appended-chained (appended f y) ys x
-
 pub chained-append : (f : Forest Item) (xs ys : List Item) → chained (chained f xs) ys ≡ chained f (xs ++ ys)
 chained-append f [] ys = refl
 chained-append f (x ∷ xs) ys = chained-append (appended f x) xs ys
+
+pub appended-chained : (f : Forest Item) (chain : List Item) (x : Item) → appended (chained f chain) x ≡ chained f (chain ++ x ∷ [])
+appended-chained f chain x = chained-append f chain (x ∷ [])
 
 -- the parts of a tree with a chain
 pub chained-spine : (f : Forest Item) (chain : List Item) → (chained f chain).spine ≡ f.spine
@@ -251,9 +227,7 @@ place_at m = record { 0 = m }
 
 -- the last item of a chain is current
 pub chained-current : (f : Forest Item) (x : Item) (xs : List Item) → (chained f (x ∷ xs)).current ≡ Some (record { 0 = length f.nodes + length xs })
-chained-current f x [] =
-    let z : length f.nodes ≡ length f.nodes + 0 = omega arith in
-    ap (λ (m : ℕ). Some (place_at m)) z
+chained-current f x [] = grind arith
 chained-current f x (y ∷ ys) =
     let l = length-append f.nodes ((length f.spine + 1, x) ∷ []) in
     let z : length (appended f x).nodes + length ys ≡ length f.nodes + suc (length ys) = omega arith in
@@ -274,27 +248,12 @@ after_depth (n ∷ ns) d chain (suc k) low high = after_depth ns d chain k (omeg
 
 -- the children are leaves, if the innermost open node was the last node
 pub has_leaves-chained : (f : Forest Item) (chain : List Item) → open_place f.spine + 1 ≡ length f.nodes → HasLeaves (chained f chain)
-has_leaves-chained f chain last k low high =
-    let nodes = chained-nodes f chain in
-    let spine = chained-spine f chain in
-    let low' : length f.nodes ≤ k = omega (arith, low, last, ap open_place spine) in
-    let high' : k < length (f.nodes ++ at_depth (length f.spine + 1) (leaves chain)) = omega (arith, high, ap length nodes) in
-    ap (λ (ns : List (ℕ × Item)). slice_index (depths ns) k) nodes ∙ after_depth f.nodes (length f.spine + 1) chain k low' high'
-    ∙ ap (λ (is : List TreeIndex). length is + 1) (sym spine)
+has_leaves-chained f chain last k low high = grind (arith, chained-nodes, chained-spine, after_depth)
 
 -- a cut
 pub cut_tokens-leaves : (e d : ℕ) (chain : List Item) → cut_tokens e d (at_depth d (leaves chain)) ≡ at_depth d (leaves (cut e chain))
 cut_tokens-leaves e d [] = refl
-cut_tokens-leaves e d (x ∷ xs) =
-    cond-false _ _ _ (le-ltb d (d + 0) (omega arith))
-    ∙ elim (cases_Bool (nat_lt x.start e)) [
-      | inl before ↦ rw before (ap (λ (ns : List (ℕ × Item)). (d + 0, cut_item e x) ∷ ns) (cut_tokens-leaves e d xs))
-      | inr following ↦ rw following (elim (cases_Bool (is_escaped x.body && (x.start == e))) [ inl escaped ↦ rw escaped refl | inr other ↦ rw other refl ])
-    ]
-
-last_at : (ds : List ℕ) (d n k : ℕ) → n ≡ suc k → slice_index ds k ≡ d → last_before ds d n ≡ k
-last_at ds d n k is at =
-    ap (last_before ds d) is ∙ cond-true _ _ _ (eq-eqb (slice_index ds k) d at)
+cut_tokens-leaves e d (x ∷ xs) = grind (arith, cond-false, cases_Bool, cut_tokens-leaves e d xs)
 
 -- the current node of a chain is the last child
 last_chained : (f : Forest Item) (chain : List Item)
@@ -307,31 +266,19 @@ last_chained f (x ∷ xs) last none =
     let spine = chained-spine f (x ∷ xs) in
     let leaf = has_leaves-chained f (x ∷ xs) last k (omega (arith, last, ap open_place spine)) (omega (arith, len)) in
     let at : slice_index (depths g.nodes) k ≡ length f.spine + 1 = leaf ∙ ap (λ (is : List TreeIndex). length is + 1) spine in
-    let place : last_before (depths g.nodes) (length f.spine + 1) (length g.nodes) ≡ k = last_at (depths g.nodes) _ _ k (omega arith) at in
+    let size : length g.nodes ≡ suc k = omega arith in
+    let place : last_before (depths g.nodes) (length f.spine + 1) (length g.nodes) ≡ k =
+    ap (last_before (depths g.nodes) (length f.spine + 1)) size ∙ cond-true _ _ _ (eq-eqb (slice_index (depths g.nodes) k) _ at) in
     cond-true _ _ _ (lt-ltb (open_place f.spine + 1) (length g.nodes) (omega arith)) ∙ ap (λ (m : ℕ). Some (place_at m)) place ∙ sym (chained-current f x xs)
 
 -- the nodes before a chain
 taken_chained : (f : Forest Item) (chain : List Item) (n : ℕ) → n ≡ length f.nodes → take n (chained f chain).nodes ≡ f.nodes
-taken_chained f chain n same =
-    ap (λ (m : ℕ). take m (chained f chain).nodes) same ∙ ap (take (length f.nodes)) (chained-nodes f chain)
-    ∙ take-append_seam f.nodes (at_depth (length f.spine + 1) (leaves chain))
+taken_chained f chain n same = grind (arith, chained-nodes, take-append_seam)
 
 pub cut_siblings-chained : (f : Forest Item) (chain : List Item) (e : ℕ)
     → open_place f.spine + 1 ≡ length f.nodes → f.current ≡ None → cut_siblings (chained f chain) e ≡ chained f (cut e chain)
 cut_siblings-chained f chain e last none =
-    let d = length f.spine + 1 in
-    let g = chained f chain in
-    let spine = chained-spine f chain in
-    let depth : length g.spine + 1 ≡ d = ap (λ (is : List TreeIndex). length is + 1) spine in
-    let place : open_place g.spine + 1 ≡ length f.nodes = omega (arith, last, ap open_place spine) in
-    let front : take (open_place g.spine + 1) g.nodes ≡ f.nodes = taken_chained f chain (open_place g.spine + 1) place in
-    let back : drop (open_place g.spine + 1) g.nodes ≡ at_depth d (leaves chain) =
-    ap (λ (n : ℕ). drop n g.nodes) place ∙ ap (drop (length f.nodes)) (chained-nodes f chain) ∙ drop-append_seam f.nodes (at_depth d (leaves chain)) in
-    let nodes : (cut_siblings g e).nodes ≡ (chained f (cut e chain)).nodes =
-    rw (front, back, depth) (ap (λ (ns : List (ℕ × Item)). f.nodes ++ ns) (cut_tokens-leaves e d chain) ∙ sym (chained-nodes f (cut e chain))) in
-    forest-eq (cut_siblings g e) (chained f (cut e chain)) nodes (spine ∙ sym (chained-spine f (cut e chain)))
-    (ap (λ (is : List TreeIndex). last_child is (cut_siblings g e).nodes) spine ∙ ap (λ (ns : List (ℕ × Item)). last_child f.spine ns) nodes
-    ∙ last_chained f (cut e chain) last none)
+    grind (arith, chained-spine, taken_chained, chained-nodes, drop-append_seam, cut_tokens-leaves, forest-eq, last_chained)
 
 -- the innermost open node without its chain
 pub childless-chained : (f : Forest Item) (chain : List Item) (ix : TreeIndex)

@@ -1,18 +1,18 @@
 -- Each escaped text of a chain is directly after a backslash that no token has, so a chain may be cut at any offset
 -- between two characters.
-use Rattle.std.proofs.Common.{◌≡◌, ℕ, ◌+◌, ◌-◌, ◌≤◌, ◌<◌, ◌==◌, ◌&&◌, Bool, true, false, List, [], ◌∷◌, ◌++◌, slice_index, Option, Some, None}
-use Rattle.std.proofs.Common.{IsCharBoundary, nat_lt, if◌then◌else◌, inl, inr, refl, sym, ap, subst, ◌∙◌, arith, lt-ltb, le-ltb, eqb-true, ne_eqb}
+use Rattle.std.proofs.Common.{◌≡◌, ℕ, ◌+◌, ◌-◌, ◌≤◌, ◌<◌, ◌==◌, ◌&&◌, true, false, List, [], ◌∷◌, ◌++◌, slice_index, Option, Some, None}
+use Rattle.std.proofs.Common.{IsCharBoundary, nat_lt, if◌then◌else◌, inl, inr, refl, sym, subst, ◌∙◌, arith, lt-ltb, le-ltb, eqb-true}
 use Rattle.std.proofs.lemmas.Bool.{cond-false, cond_both, cases_lt, and_parts, and_right, false≢true}
-use Rattle.std.proofs.lemmas.Str.{IsCharBoundary-before_ascii}
 use Rattle.first_pass_items.specs.Bytes.{backslash}
 use Rattle.first_pass_items.specs.declared.cow_str.CowStr.{CowStr}
 use Rattle.first_pass_tokens.specs.Braces.{MathBraces}
 use Rattle.first_pass_items.specs.declared.item.Item.{Item}
 use Rattle.first_pass_tree.specs.Forest.{is_escaped}
 use Rattle.first_pass_tokens.specs.Pieces.{Inline}
-use Rattle.first_pass_tokens.specs.Chains.{text_token, touches, add_token, add_tokens, add_text, is_backslash_break, close_break, cut}
+use Rattle.first_pass_tokens.specs.Chains.{text_token, add_token, add_tokens, add_text, is_backslash_break, close_break, cut}
 use Rattle.first_pass_tokens.specs.LineTokens.{AreLineTokens}
 use Rattle.first_pass_tokens.proofs.InOrder.{AreInOrder, HaveBytes}
+use Rattle.first_pass_tokens.proofs.ChainLemmas.{add_text-some, add_token-by}
 use Rattle.first_pass_tokens.proofs.LineLemmas.{line_keeps}
 use Rattle.first_pass_tokens.proofs.OrderLemmas.{order_add}
 
@@ -39,25 +39,16 @@ ends_in_order text from to [] h = h
 ends_in_order text from to (x ∷ xs) h = ends_in_order text x.«end» to xs h.4
 
 ends_add : (from at : ℕ) (chain : List Item) (y : Item) → y.«end» ≤ at → EndsBy from at (add_token chain y)
-ends_add from at [] y within = within
-ends_add from at (x ∷ []) y within = cond_both (touches x y) (record x { «end» = y.«end» } ∷ []) (x ∷ y ∷ []) (EndsBy from at) (λ b. within) (λ b. within)
-ends_add from at (x ∷ z ∷ zs) y within = ends_add x.«end» at (z ∷ zs) y within
+ends_add from at chain y within =
+    add_token-by (λ xs ys. (low : ℕ) → EndsBy low at ys) y (λ low. within) (λ x t first second place low. within) (λ x xs ys add low. add x.«end») chain from
 
 -- a token is appended
 pub escapes_add : (text : List ℕ) (from mid : ℕ) (chain : List Item) (y : Item) → EndsBy from mid chain → EscapesStand text from chain → EscapeAfter text mid y
     → EscapesStand text from (add_token chain y)
-escapes_add text from mid [] y h k following = (λ e. (omega (arith, (following e).0), (following e).1), tt)
-escapes_add text from mid (x ∷ []) y h k following =
-    cond_both (touches x y) (record x { «end» = y.«end» } ∷ []) (x ∷ y ∷ []) (EscapesStand text from)
-    (λ b. (k.0, tt))
-    (λ b. (k.0, (λ e. (omega (arith, (following e).0), (following e).1), tt)))
-escapes_add text from mid (x ∷ z ∷ zs) y h k following = (k.0, escapes_add text x.«end» mid (z ∷ zs) y h k.1 following)
-
-escapes_text : (text : List ℕ) (from mid a b : ℕ) (escaped : Bool) (chain : List Item) → EndsBy from mid chain → EscapesStand text from chain
-    → EscapeAfter text mid (text_token a b escaped) → EscapesStand text from (add_text a b escaped chain)
-escapes_text text from mid a b escaped chain h k following =
-    cond_both (nat_lt a b) (add_token chain (text_token a b escaped)) chain (EscapesStand text from)
-    (λ some. escapes_add text from mid chain (text_token a b escaped) h k following) (λ none. k)
+escapes_add text from mid chain y h k following =
+    add_token-by (λ xs ys. (low : ℕ) → EndsBy low mid xs → EscapesStand text low xs → EscapesStand text low ys) y
+    (λ low h k. ((λ e. (omega (arith, (following e).0), (following e).1)), tt)) (λ x t first second place low h k. (k.0, tt))
+    (λ x xs ys add low h k. (k.0, add x.«end» h k.1)) chain from h k
 
 -- the tokens of a text are joined to a chain
 pub escapes_adds : (text : List ℕ) (from mid to : ℕ) (chain tokens : List Item)
@@ -74,7 +65,8 @@ pub escapes_closed : (text : List ℕ) (from to : ℕ) (break : Option Item) (ch
 escapes_closed text from to None chain h k = k
 escapes_closed text from to (Some x) chain h k =
     cond_both (is_backslash_break x.body) (add_text x.start (x.start + 1) false chain) chain (EscapesStand text from)
-    (λ b. escapes_text text from to x.start (x.start + 1) false chain (ends_in_order text from to chain h) k (λ e. absurd (false≢true e))) (λ b. k)
+    (λ b. subst (EscapesStand text from) (sym (add_text-some x.start (x.start + 1) false chain (omega arith)))
+    (escapes_add text from to chain (text_token x.start (x.start + 1) false) (ends_in_order text from to chain h) k (λ e. absurd (false≢true e)))) (λ b. k)
 
 -- an item that is no escaped text is appended
 pub escapes_append : (text : List ℕ) (from : ℕ) (chain : List Item) (y : Item)
@@ -93,9 +85,7 @@ line_escapes {texts} {s} line =
 -- a chain that begins after the cut becomes empty
 cut_beyond : (text : List ℕ) (from to e : ℕ) (chain : List Item) → e < from → AreInOrder text from to chain → cut e chain ≡ []
 cut_beyond text from to e [] past h = refl
-cut_beyond text from to e (x ∷ xs) past h =
-    let first = h.0 in
-    cond-false _ _ _ (le-ltb x.start e (omega arith)) ∙ cond-false _ _ _ (and_right (is_escaped x.body) (x.start == e) (ne_eqb x.start e (λ same. omega arith)))
+cut_beyond text from to e (x ∷ xs) past h = grind (arith, cond-false, and_right)
 
 -- the backslash of an escaped text that is cut off, or nothing
 abbrev left_after : ℕ → Item → List Item
@@ -103,16 +93,7 @@ left_after e x = if is_escaped x.body && (x.start == e) then text_token (e - 1) 
 
 backslash_in_order : (text : List ℕ) (from e : ℕ) (x : Item)
     → EscapeAfter text from x → IsCharBoundary text e → from ≤ e → AreInOrder text from e (left_after e x)
-backslash_in_order text from e x stands at order =
-    cond_both (is_escaped x.body && (x.start == e)) (text_token (e - 1) e false ∷ []) [] (AreInOrder text from e)
-    (λ b.
-    let both = and_parts (is_escaped x.body) (x.start == e) b in
-    let here : x.start ≡ e = eqb-true x.start e both.1 in
-    let s = stands both.0 in
-    let byte : slice_index text (e - 1) ≡ backslash = ap (λ (k : ℕ). slice_index text (k - 1)) (sym here) ∙ s.1 in
-    let before = IsCharBoundary-before_ascii text (e - 1) (omega (arith, s.0, at.0)) (omega (arith, byte)) in
-    (omega (arith, s.0), omega arith, before, at, omega arith))
-    (λ b. order)
+backslash_in_order text from e x stands at order = grind (arith, cond_both, and_parts)
 
 -- A chain in order is in order up to a cut, also if an escaped text begins at the cut.
 pub cut_escaped : (text : List ℕ) (from to e : ℕ) (chain : List Item)

@@ -6,7 +6,7 @@ use Rattle.std.proofs.lemmas.Bool.{and_parts}
 use Rattle.std.proofs.lemmas.Bool.Decides.{nat_tests}
 use Rattle.first_pass_items.specs.Bytes.{underscore}
 use Rattle.first_pass_flank.specs.declared.flank.DelimiterRun.{DelimiterRun}
-use Rattle.first_pass_flank.specs.Flank.{can_open, can_close, opens_between, closes_between}
+use Rattle.first_pass_flank.specs.Flank.{can_open, can_close}
 use Rattle.first_pass_flank.proofs.WordFacts.{word_underscore, opens_not, closes_not, last_word, first_word, no_pipe}
 use Rattle.first_pass_tokens.specs.declared.pieces.Piece.TheVariants.{Left}
 use Rattle.first_pass_tokens.specs.declared.pieces.TokenStart.TheVariants.{Ready}
@@ -19,14 +19,6 @@ use Rattle.first_pass_tokens.proofs.RunPlaces.{front_byte}
 -- a run that neither opens nor closes is plain text
 stays_plain : (r : DelimiterRun) → can_open r ≡ false → can_close r ≡ false → run_piece r ≡ Left r.size
 stays_plain r a b = rw (a, b) refl
-
-opens_never : (r : DelimiterRun) (p n : ℕ) → r.before ≡ Some p → r.after ≡ Some n → opens_between r p n ≡ false → can_open r ≡ false
-unfolding can_open opens_between
-opens_never r p n before after e = rw (before, after) e
-
-closes_never : (r : DelimiterRun) (p n : ℕ) → r.before ≡ Some p → r.after ≡ Some n → closes_between r p n ≡ false → can_close r ≡ false
-unfolding can_close closes_between
-closes_never r p n before after e = rw (before, after) e
 
 -- an underscore inside a word is plain text
 inside_word_piece : (z : Inline) (at : ℕ) → IsUtf8 z.whole → z.text ≡ take (length z.text) z.whole → slice_index z.text at ≡ underscore → z.start < at
@@ -49,8 +41,8 @@ inside_word_piece z at utf8 front here some before after =
     let no_pipe_is = no_pipe z.text z.start at some (omega arith) before in
     ap (λ k. run_piece (run_in z at k)) one
     ∙ stays_plain r
-    (opens_never r p n last first (opens_not r.in_row r p n refl here no_pipe_is before after))
-    (closes_never r p n last first (closes_not r.in_row r p n refl here no_pipe_is before after))
+    (opens_not r.in_row r p n refl here no_pipe_is before after last first)
+    (closes_not r.in_row r p n refl here no_pipe_is before after last first)
 
 pub inside_word_ready : (z : Inline) (at : ℕ) → IsUtf8 z.whole → z.text ≡ take (length z.text) z.whole → is_inside_word z.text z.start at ≡ true
     → IsReadyAt z at (Left 1)

@@ -1,5 +1,4 @@
 pub mod AlikeLemmas
-pub mod BraceLemmas
 pub mod BytesLemmas
 pub mod CellPipes
 pub mod ChainLemmas
@@ -13,8 +12,6 @@ pub mod MarkupLemmas
 pub mod NamedTexts
 pub mod OrderLemmas
 pub mod PieceFacts
-pub mod PipeMarks
 pub mod QuickPieces
-pub mod ReferenceBytes
 pub mod RunPlaces
 pub mod SoFar

@@ -1,15 +1,15 @@
 -- The division of a content: one more piece, its uniqueness, that it has no line ending, and the end of the line.
-use Rattle.std.proofs.Common.{ℕ, min, zero, suc, ◌≡◌, ◌⊎◌, ◌+◌, ◌-◌, ◌≤◌, ◌<◌, ◌==◌, ◌&&◌, ◌||◌, ◌%◌, if◌then◌else◌, Bool, true, false, List, ◌∷◌, ◌++◌, []}
-use Rattle.std.proofs.Common.{length, reverse, drop, get_or, slice_index, nat_lt, nat_le, Option, None, IfSome, Result, Ok, Err, IfOk, unwrap_or, refl, sym}
-use Rattle.std.proofs.Common.{ap, subst, ◌∙◌, inl, inr, arith, length-drop, length-take, slice_range, get_or-drop, get_or-take, drop-drop, eqb-true, le-leb}
+use Rattle.std.proofs.Common.{ℕ, min, zero, suc, ◌≡◌, ◌⊎◌, ◌+◌, ◌-◌, ◌≤◌, ◌<◌, ◌==◌, ◌&&◌, ◌%◌, if◌then◌else◌, Bool, true, false, List, ◌∷◌, ◌++◌, [], length}
+use Rattle.std.proofs.Common.{reverse, drop, get_or, slice_index, nat_lt, nat_le, Option, None, IfSome, Result, Ok, Err, IfOk, unwrap_or, refl, sym, ap}
+use Rattle.std.proofs.Common.{subst, ◌∙◌, inl, inr, arith, length-drop, length-take, slice_range, get_or-drop, get_or-take, drop-drop, eqb-true, le-leb}
 use Rattle.std.proofs.Common.{leb-false, leb-true, ltb-true}
 use Rattle.std.specs.List.{suffix_len, prefix_len}
 use Rattle.std.specs.declared.alloc.AllocError.{AllocError}
 use Rattle.std.proofs.lemmas.List.{get_or-reverse, get_or_past, at_drop_all, at_drop_more}
 use Rattle.std.proofs.lemmas.List.Sums.{suffix_len-le-length, prefix_len_passes, prefix_len_is, prefix_len_stops}
-use Rattle.std.proofs.lemmas.Bool.{false≢true, cases_lt, cond_both, cond-true, cond-false, or_parts, or_cases, and_parts}
+use Rattle.std.proofs.lemmas.Bool.{false≢true, cases_lt, cond_both, cond-true, cond-false, or_cases, and_parts, lt-leb, not_from_true, not_from_false}
+use Rattle.std.proofs.lemmas.Bool.Decides.{nat_tests}
 use Rattle.std.proofs.Math.Bool.{or-false}
-use Rattle.std.proofs.lemmas.Bool.{lt-leb, not_from_true, not_from_false}
 use Rattle.first_pass_items.specs.Bytes.{line_feed, carriage_return, backslash, backquote, pipe}
 use Rattle.first_pass_items.specs.OptionWords.{has, tables}
 use Rattle.first_pass_items.specs.declared.item.Item.{Item}
@@ -25,9 +25,9 @@ use Rattle.first_pass_tokens.specs.NamedTexts.{MakesPiece}
 use Rattle.first_pass_tokens.specs.Pieces.{Inline, found_at, size, is_delimiter, run_at}
 use Rattle.first_pass_tokens.specs.MarkupBytes.{StandsOver, HasNoBackquote}
 use Rattle.first_pass_tokens.specs.LineTokens.{Spot, spot, text_end, content_ends_at, ends_cell, ArePieces, IsInPieces, AreLineTokens, IsCell, IsBreak}
-use Rattle.first_pass_tokens.specs.LineTokens.{EndsLine, EndsCell}
-use Rattle.first_pass_tokens.specs.LineTokens.{add_piece, add_pieces, line_end_len, line_break, breaks_by_backslash, backslashes_at_end, blanks_at_end}
-use Rattle.first_pass_tokens.specs.TreeTokens.{AppendsLine, AppendsCell, with_tokens, chained, JoinsNone}
+use Rattle.first_pass_tokens.specs.LineTokens.{EndsLine, EndsCell, add_piece, add_pieces, line_end_len, line_break, breaks_by_backslash, backslashes_at_end}
+use Rattle.first_pass_tokens.specs.LineTokens.{blanks_at_end}
+use Rattle.first_pass_tokens.specs.TreeTokens.{AppendsLine, AppendsCell, chained, JoinsNone}
 use Rattle.first_pass_tokens.specs.Chains.{text_token, token, run_tokens, add_token, add_tokens, add_text, AreApart}
 use Rattle.first_pass_tokens.proofs.PieceFacts.{IsPieceAt, found_facts, becomes_facts, piece_byte, piece_fits, visible_plain, run_next, markup_plain}
 use Rattle.first_pass_tokens.proofs.PieceFacts.{markup_unescaped}
@@ -37,9 +37,7 @@ use Rattle.first_pass_tokens.proofs.ChainLemmas.{add_token-apart, add_tokens-non
 pub are_more : (texts : List CowStr) (s : Inline) (at : ℕ) (b : MathBraces) (ps : List Piece) (mid : Spot) (q : Piece) → ArePieces texts s at b ps mid
     → content_ends_at s mid.at ≡ false → MakesPiece texts mid.braces (found_at s mid.at) q
     → ArePieces texts s at b (ps ++ q ∷ []) (spot (mid.at + size q) (braces_after (found_at s mid.at) mid.braces))
-are_more texts s at b [] mid q same on is =
-    let Goes : Spot → Type 0 = λ (t : Spot). ArePieces texts s t.at t.braces (q ∷ []) (spot (mid.at + size q) (braces_after (found_at s mid.at) mid.braces)) in
-    subst Goes (sym same) (on, is, refl)
+are_more texts s at b [] mid q same on is = grind arith
 are_more texts s at b (p ∷ ps) mid q h on is =
     (h.0, h.1, are_more texts s (at + size p) (braces_after (found_at s at) b) ps mid q h.2 on is)
 
@@ -55,21 +53,14 @@ pieces_reach texts s at b [] to is = (let same : at ≡ to.at = ap (λ (t : Spot
 pieces_reach texts s at b (p ∷ ps) to h = (let more = pieces_reach texts s (at + size p) (braces_after (found_at s at) b) ps to h.2 in omega arith)
 
 -- places at which no content ends
-not_ended_cell : (s : Inline) (at : ℕ) → content_ends_at s at ≡ false
-    → (at < length s.text) × (is_line_end (slice_index s.text at) ≡ false) × (ends_cell s (slice_index s.text at) ≡ false)
-unfolding content_ends_at
-not_ended_cell s at on =
-    let b = slice_index s.text at in
-    let parts = or_parts (nat_le (length s.text) at) (is_line_end b || ends_cell s b) on in
-    let byte = or_parts (is_line_end b) (ends_cell s b) parts.1 in
-    (leb-false (length s.text) at parts.0, byte.0, byte.1)
-
 pub not_ended : (s : Inline) (at : ℕ) → content_ends_at s at ≡ false → (at < length s.text) × (is_line_end (slice_index s.text at) ≡ false)
-not_ended s at on = (let h = not_ended_cell s at on in (h.0, h.1))
+unfolding content_ends_at
+not_ended s at on = (grind (arith, nat_tests, on), grind (arith, nat_tests, on))
 
 -- with tables, there is no pipe at such a place in a row
 pub not_ended_pipe : (s : Inline) (at : ℕ) → s.row ≡ true → has s.options tables ≡ true → content_ends_at s at ≡ false → (slice_index s.text at == pipe) ≡ false
-not_ended_pipe s at row on runs = rw (row, on) at (not_ended_cell s at runs).2
+unfolding content_ends_at
+not_ended_pipe s at row on runs = grind (arith, nat_tests, row, on, runs)
 
 -- the piece at a place of a content
 pub piece_of : (texts : List CowStr) (b : MathBraces) (s : Inline) (at : ℕ) (p : Piece) → content_ends_at s at ≡ false → MakesPiece texts b (found_at s at) p
@@ -90,9 +81,7 @@ pub record IsContent (text : List ℕ) (start end : ℕ) : Type 0 where
 
 content_from : (texts : List CowStr) (s : Inline) (at : ℕ) (b : MathBraces) (ps : List Piece) (to : Spot)
     → at ≤ length s.text → ArePieces texts s at b ps to → IsContent s.text at to.at
-content_from texts s at b [] to within is =
-    let same : at ≡ to.at = ap (λ (t : Spot). t.at) is in
-    record { order = omega arith; within = omega arith; plain = λ k low high. absurd (omega arith) }
+content_from texts s at b [] to within is = grind arith
 content_from texts s at b (p ∷ ps) to within h =
     let facts = piece_of texts b s at p h.0 h.1 in
     let rest = content_from texts s (at + size p) (braces_after (found_at s at) b) ps to (piece_fits s.text at p facts) h.2 in
@@ -113,12 +102,7 @@ content_of {texts} {s} {ps} {to} within d = content_from texts s s.start s.brace
 pub ended_by : (s : Inline) (end : ℕ) → content_ends_at s end ≡ true
     → (length s.text ≤ end) ⊎ ((is_line_end (slice_index s.text end) ≡ true) ⊎ (ends_cell s (slice_index s.text end) ≡ true))
 unfolding content_ends_at
-ended_by s end h =
-    let b = slice_index s.text end in
-    elim (or_cases (nat_le (length s.text) end) (is_line_end b || ends_cell s b) h) [
-      | inl text ↦ inl (leb-true (length s.text) end text)
-      | inr byte ↦ inr (or_cases (is_line_end b) (ends_cell s b) byte)
-    ]
+ended_by s end h = grind (arith, nat_tests, h)
 
 -- a line that ends before the end of the text ends at a line ending
 line_ended_by : (s : Inline) (end : ℕ) → s.row ≡ false → content_ends_at s end ≡ true → end < length s.text → is_line_end (slice_index s.text end) ≡ true
@@ -127,11 +111,7 @@ line_ended_by s end plain h within = sym (or-false (is_line_end (slice_index s.t
 
 -- the line ending in the rest of a text
 end_here : (b : ℕ) (bs : List ℕ) → is_line_end b ≡ true → unwrap_or (eol_len (b ∷ bs)) 0 ≡ (if b == carriage_return && begins line_feed bs then 2 else 1)
-end_here b bs line =
-    elim (or_cases (b == line_feed) (b == carriage_return) line) [
-      | inl lf ↦ rw (eqb-true b line_feed lf) refl
-      | inr cr ↦ rw (eqb-true b carriage_return cr) refl
-    ]
+end_here b bs line = grind (arith, or_cases)
 
 begins_drop : (text : List ℕ) (at : ℕ) → begins line_feed (drop at text) ≡ (slice_index text at == line_feed)
 begins_drop text at =
@@ -180,10 +160,7 @@ line_place s end plain c ended =
 -- a line ending is not empty
 line_end_some : (s : Inline) (end : ℕ) → end < length s.text → 0 < line_end_len s end
 unfolding line_end_len
-line_end_some s end within =
-    cond_both (nat_le (length s.text) end) 0 _ (λ (n : ℕ). 0 < n) (λ past. absurd (omega (arith, leb-true (length s.text) end past)))
-    (λ inside. cond_both (slice_index s.text end == carriage_return && slice_index s.text (end + 1) == line_feed) 2 1 (λ (n : ℕ). 0 < n)
-    (λ two. omega arith) (λ one. omega arith))
+line_end_some s end within = grind (arith, nat_tests, within)
 
 -- the bytes at the end of a list that pass a test
 pub last_passes : (p : ℕ → Bool) (xs : List ℕ) (k : ℕ) → length xs - suffix_len p xs ≤ k → k < length xs → p (get_or xs k 0) ≡ true
@@ -278,18 +255,7 @@ content_reach s end c =
 
 pub cell_ends : {texts : List CowStr} {s : Inline} {tokens : List Item} {end : ℕ} {after : MathBraces}
     → s.start ≤ length s.text → IsCell texts s tokens end after → EndsCell s end
-cell_ends {texts} {s} {tokens} {end} {after} within cell =
-    let c = content_of within cell.division in
-    record {
-      from = c.order;
-      within = c.within;
-      in_line = content_reach s end c;
-      ended = cell.division.ended;
-      later = λ on. elim (cases_lt s.start end) [
-        | inl more ↦ more
-        | inr none ↦ let same : s.start ≡ end = omega (arith, c.order) in absurd (false≢true (sym on ∙ ap (content_ends_at s) same ∙ cell.division.ended))
-      ];
-    }
+cell_ends {texts} {s} {tokens} {end} {after} within cell = grind (arith, content_of, content_reach, cases_lt, false≢true)
 
 -- A token from an offset on: it has at least one byte, and the bytes of its kind. If it is a text, it has no backquote,
 -- and if it is escaped, it is directly after a backslash.
@@ -326,14 +292,7 @@ module _ (s : Inline) (P : ℕ → List Item → Type 0) (later : (at to : ℕ) 
       (λ some. let next = run_next s.text at n here.0 some in (next.0, ap is_delimiter next.1 ∙ here.1)) first)
 
   piece_keeps : (stop at : ℕ) (p : Piece) (chain : List Item) → IsPieceAt s.text at p → P at chain → P (at + size p) (add_piece stop at p chain)
-  piece_keeps stop at (Left n) chain facts h =
-      text_keeps at at (min (at + n) stop) (at + n) false chain (omega arith) (omega arith) (λ some. record {
-        from = omega arith;
-        some = some;
-        over = tt;
-        spares = λ e k low high. ap (λ (x : ℕ). x == backquote) (facts.same k low (omega arith)) ∙ facts.other;
-        escape = λ e. absurd (false≢true e);
-      }) h
+  piece_keeps stop at (Left n) chain facts h = grind (arith, text_keeps, false≢true)
   piece_keeps stop at (Begins dropped escaped) chain facts h =
       text_keeps at (at + dropped) (min (at + (dropped + 1)) stop) (at + (dropped + 1)) escaped chain (omega arith) (omega arith) (λ some. record {
         from = omega arith;
@@ -371,21 +330,9 @@ module _ (s : Inline) (P : ℕ → List Item → Type 0) (later : (at to : ℕ) 
       subst (P line.content_end) (sym line.tokens_are)
       (pieces_keep texts (text_end s line.content_end) s.start s.braces line.pieces (spot line.content_end after) [] line.division.divided none)
 
--- no token of a line or a cell touches the one before it
-pub cell_apart : {texts : List CowStr} {s : Inline} {tokens : List Item} {end : ℕ} {after : MathBraces} → IsCell texts s tokens end after → AreApart tokens
-cell_apart {texts} {s} cell = cell_keeps s (λ at. AreApart) (λ at to chain order h. h) (λ at chain x is h. add_token-apart chain x h) cell tt
-
-pub line_apart : {texts : List CowStr} {s : Inline} {tokens : List Item} {answer : ℕ × Option Item} {after : MathBraces}
-    → AreLineTokens texts s tokens answer after → AreApart tokens
-line_apart {texts} {s} line = line_keeps s (λ at. AreApart) (λ at to chain order h. h) (λ at chain x is h. add_token-apart chain x h) line tt
-
--- a cell appended after a chain
-pub appended_cell : {texts : List CowStr} {s : Inline} {old new : Forest Item} {end : ℕ} {after : MathBraces} (f : Forest Item) (chain : List Item)
-    (h : AppendsCell texts s old new end after)
-    → old ≡ chained f chain → JoinsNone f → new ≡ chained f (add_tokens chain h.tokens)
-appended_cell f chain h is none = h.tree_is ∙ ap (λ (g : Forest Item). with_tokens g h.tokens) is ∙ with_tokens-chained f chain h.tokens none
-
--- a cell appended to a tree to which no text can be joined
+-- a cell appended to a tree to which no text can be joined; none of its tokens touches the one before it
 pub only_appended_cell : {texts : List CowStr} {s : Inline} {old new : Forest Item} {end : ℕ} {after : MathBraces} (h : AppendsCell texts s old new end after)
     → JoinsNone old → new ≡ chained old h.tokens
-only_appended_cell {texts} {s} {old} h none = appended_cell old [] h refl none ∙ ap (chained old) (add_tokens-none h.tokens (cell_apart h.cell))
+only_appended_cell {texts} {s} {old} h none =
+    let apart = cell_keeps s (λ at. AreApart) (λ at to chain order k. k) (λ at chain x is. add_token-apart chain x) h.cell tt in
+    h.tree_is ∙ with_tokens-chained old [] h.tokens none ∙ ap (chained old) (add_tokens-none h.tokens apart)

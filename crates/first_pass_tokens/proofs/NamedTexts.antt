@@ -1,6 +1,6 @@
 -- Texts that tokens name stay named while more are appended, and each token of a line names one of them, if it names
 -- a text.
-use Rattle.std.proofs.Common.{◌≡◌, ℕ, zero, suc, ◌+◌, List, ◌∷◌, ◌++◌, length, slice_get, Option, Some, sym, ap, ◌∙◌, append_assoc, [], append-nil}
+use Rattle.std.proofs.Common.{◌≡◌, ℕ, zero, suc, ◌+◌, List, ◌∷◌, ◌++◌, length, slice_get, Option, Some, sym, ap, ◌∙◌, append_assoc, [], append-nil, arith}
 use Rattle.first_pass_items.specs.declared.cow_str.CowStr.{CowStr}
 use Rattle.first_pass_tokens.specs.Braces.{MathBraces, braces_after}
 use Rattle.first_pass_items.specs.declared.item.CowIndex.{CowIndex}
@@ -52,14 +52,7 @@ division_more {new} {old} {s} {ps} {to} more d = record { divided = pieces_more 
 pub line_more : {new old : List CowStr} {s : Inline} {tokens : List Item} {answer : ℕ × Option Item} {after : MathBraces}
     → AreMore new old → AreLineTokens old s tokens answer after
     → AreLineTokens new s tokens answer after
-line_more more line = record {
-  no_cell = line.no_cell;
-  pieces = line.pieces;
-  content_end = line.content_end;
-  division = division_more more line.division;
-  tokens_are = line.tokens_are;
-  answer_is = line.answer_is;
-}
+line_more more line = grind (arith, division_more)
 
 pub cell_more : {new old : List CowStr} {s : Inline} {tokens : List Item} {end : ℕ} {after : MathBraces}
     → AreMore new old → IsCell old s tokens end after → IsCell new s tokens end after

@@ -1,15 +1,14 @@
 -- Tokens, one after the other: a chain in order stays in order if a token is appended, and the tokens of a line or a
 -- cell are in order.
 use Rattle.std.proofs.Common.{ℕ, zero, suc, ◌≡◌, ◌⊎◌, ◌+◌, ◌-◌, ◌≤◌, ◌<◌, ◌==◌, min, Bool, true, false, List, ◌∷◌, ◌++◌, length, take, get_or, []}
-use Rattle.std.proofs.Common.{slice_index, nat_lt, nat_le, Option, Some, None, IfSome, IsUtf8, IsCharBoundary, refl, sym, ap, subst, ◌∙◌, inl, inr, arith}
-use Rattle.std.proofs.Common.{drop, length-drop, length-take, get_or-drop, get_or-take, eqb-true}
+use Rattle.std.proofs.Common.{slice_index, nat_lt, Option, Some, None, IfSome, IsUtf8, IsCharBoundary, refl, sym, ap, subst, ◌∙◌, inl, inr, arith}
+use Rattle.std.proofs.Common.{drop, slice_range, length-drop, length-take, get_or-take, eqb-true}
 use Rattle.std.specs.List.{suffix_len}
 use Rattle.std.proofs.lemmas.List.Sums.{suffix_len-le-length}
 use Rattle.std.proofs.lemmas.Str.{IsCharBoundary-after_ascii, IsCharBoundary-before_ascii, IsCharBoundary-end}
-use Rattle.std.proofs.lemmas.Bool.{cases_lt, cases_Bool, cond_both, and_parts, false≢true}
+use Rattle.std.proofs.lemmas.Bool.{cases_lt, cases_Bool, cond_both, false≢true}
 use Rattle.std.proofs.lemmas.Bool.Decides.{nat_tests}
-use Rattle.first_pass_items.specs.Bytes.{backslash, pipe, ascii_end}
-use Rattle.first_pass_items.specs.OptionWords.{has, tables}
+use Rattle.first_pass_items.specs.Bytes.{backslash, ascii_end}
 use Rattle.first_pass_items.specs.declared.cow_str.CowStr.{CowStr}
 use Rattle.first_pass_tokens.specs.Braces.{MathBraces, braces_after}
 use Rattle.first_pass_items.specs.declared.item.Item.{Item}
@@ -22,11 +21,10 @@ use Rattle.first_pass_tokens.specs.declared.line.HeldText.{HeldText}
 use Rattle.first_pass_tokens.specs.HeldText.{held_after}
 use Rattle.first_pass_tokens.specs.Pieces.{Inline, found_at, size}
 use Rattle.first_pass_tokens.specs.LineTokens.{Spot, spot, content_ends_at, ends_cell, ArePieces, AreLineTokens, IsCell, EndsLine, add_pieces, text_end}
-use Rattle.first_pass_tokens.specs.LineTokens.{breaks_by_backslash}
-use Rattle.first_pass_tokens.specs.LineTokens.{backslashes_at_end, blanks_at_end, line_end_len, line_break}
-use Rattle.first_pass_tokens.specs.Chains.{text_token, token, run_tokens, touches, add_token, add_tokens, add_text, is_backslash_break, close_break}
+use Rattle.first_pass_tokens.specs.LineTokens.{breaks_by_backslash, backslashes_at_end, blanks_at_end, line_end_len, line_break}
+use Rattle.first_pass_tokens.specs.Chains.{text_token, token, run_tokens, add_token, add_tokens, add_text, is_backslash_break, close_break}
 use Rattle.first_pass_tokens.proofs.InOrder.{AreInOrder}
-use Rattle.first_pass_tokens.proofs.ChainLemmas.{add_text-none}
+use Rattle.first_pass_tokens.proofs.ChainLemmas.{add_text-none, add_token-by}
 use Rattle.first_pass_tokens.proofs.PieceFacts.{IsVisible, IsMark, Each, IsPieceAt, mark_facts, piece_byte, at_byte}
 use Rattle.first_pass_tokens.proofs.LineLemmas.{piece_of, pieces_reach, ended_by, content_of, ends_line, last_passes, content_passes, end_bounded, break_some}
 use Rattle.first_pass_tokens.proofs.SoFar.{IsHeld, chain_after, held_start, held_piece, shown_piece, begins_on, IsTextEnd, line_text_end, cell_text_end}
@@ -55,13 +53,10 @@ order_append text from mid to (x ∷ xs) ys h k = (h.0, h.1, h.2, h.3, order_app
 -- a token is appended
 pub order_add : (text : List ℕ) (from mid : ℕ) (chain : List Item) (y : Item) → AreInOrder text from mid chain → mid ≤ y.start → y.start ≤ y.«end»
     → IsCharBoundary text y.start → IsCharBoundary text y.«end» → AreInOrder text from y.«end» (add_token chain y)
-order_add text from mid [] y h following order starts ends = (omega arith, order, starts, ends, omega arith)
-order_add text from mid (x ∷ []) y h following order starts ends =
-    cond_both (touches x y) (record x { «end» = y.«end» } ∷ []) (x ∷ y ∷ []) (AreInOrder text from y.«end»)
-    (λ b. (h.0, omega (arith, h.1, h.4), h.2, ends, omega arith))
-    (λ b. (h.0, h.1, h.2, h.3, (omega (arith, h.4), order, starts, ends, omega arith)))
-order_add text from mid (x ∷ z ∷ zs) y h following order starts ends =
-    (h.0, h.1, h.2, h.3, order_add text x.«end» mid (z ∷ zs) y h.4 following order starts ends)
+order_add text from mid chain y h following order starts ends =
+    add_token-by (λ xs ys. (low : ℕ) → AreInOrder text low mid xs → AreInOrder text low y.«end» ys) y
+    (λ low h. (omega arith, order, starts, ends, omega arith)) (λ x t first second place low h. (h.0, omega (arith, h.1, h.4), h.2, ends, omega arith))
+    (λ x xs ys add low h. (h.0, h.1, h.2, h.3, add x.«end» h.4)) chain from h
 
 -- tokens in order are appended
 pub order_adds : (text : List ℕ) (from mid to : ℕ) (chain tokens : List Item)
@@ -107,10 +102,13 @@ module _ (s : Inline) (utf8 : IsUtf8 s.text) where
             (run_in_order (at + 1) n opens closes (λ k low high. marks k (omega arith) (omega arith))),
       )
 
-  -- the pending text is appended, if a visible byte follows it
-  held_ends : (at : ℕ) (p : HeldText) (chain : List Item) → IsHeld s.text s.start p at → IsOrdered s p chain → IsVisible (slice_index s.text at)
-      → AreInOrder s.text s.start at (add_text p.begin at p.escaped chain)
-  held_ends at p chain h o byte = order_text s.text s.start p.begin p.begin at p.escaped chain o.order (omega arith) h.upto o.starts (place_before at byte)
+  -- the pending text and the tokens of a piece are appended, and another text is pending
+  order_next : (at to : ℕ) (escaped : Bool) (p : HeldText) (chain tokens : List Item) → IsHeld s.text s.start p at → IsOrdered s p chain
+      → IsVisible (slice_index s.text at) → IsCharBoundary s.text to → AreInOrder s.text at to tokens
+      → IsOrdered s (record { begin = to; escaped = escaped }) (add_tokens (add_text p.begin at p.escaped chain) tokens)
+  order_next at to escaped p chain tokens h o byte ends order =
+      let held = order_text s.text s.start p.begin p.begin at p.escaped chain o.order (omega arith) h.upto o.starts (place_before at byte) in
+      record { starts = ends; order = order_adds s.text s.start at to (add_text p.begin at p.escaped chain) tokens held order }
 
   -- one more piece
   order_piece : (at : ℕ) (q : Piece) (p : HeldText) (chain : List Item) → IsPieceAt s.text at q → IsHeld s.text s.start p at → IsOrdered s p chain
@@ -118,29 +116,19 @@ module _ (s : Inline) (utf8 : IsUtf8 s.text) where
   order_piece at (Left n) p chain facts h o = o
   order_piece at (Begins dropped escaped) p chain facts h o =
       let byte = piece_byte s.text at (Begins dropped escaped) facts in
-      record {
-        starts = place_before (at + dropped) (byte (at + dropped) (omega arith) (omega arith));
-        order = order_to s.text s.start at (at + dropped) (add_text p.begin at p.escaped chain)
-            (held_ends at p chain h o (byte at (omega arith) (omega arith))) (omega arith);
-      }
+      order_next at (at + dropped) escaped p chain [] h o (byte at (omega arith) (omega arith))
+      (place_before (at + dropped) (byte (at + dropped) (omega arith) (omega arith))) (omega arith)
   order_piece at (Token dropped n body) p chain facts h o =
       let some = facts.some in
       let byte = piece_byte s.text at (Token dropped n body) facts in
       let last = place_past (at + dropped + n) (omega arith) (byte (at + dropped + n - 1) (omega arith) (omega arith)) in
-      record {
-        starts = last;
-        order = order_add s.text s.start at (add_text p.begin at p.escaped chain) (token (at + dropped) n body)
-            (held_ends at p chain h o (byte at (omega arith) (omega arith))) (omega arith) (omega arith)
-            (place_before (at + dropped) (byte (at + dropped) (omega arith) (omega arith))) last;
-      }
+      order_next at (at + dropped + n) false p chain (token (at + dropped) n body ∷ []) h o (byte at (omega arith) (omega arith)) last
+      (omega arith, omega arith, place_before (at + dropped) (byte (at + dropped) (omega arith) (omega arith)), last, omega arith)
   order_piece at (Run n opens closes) p chain facts h o =
       let some = facts.some in
       let byte = piece_byte s.text at (Run n opens closes) facts in
-      record {
-        starts = place_past (at + n) (omega arith) (byte (at + n - 1) (omega arith) (omega arith));
-        order = order_adds s.text s.start at (at + n) (add_text p.begin at p.escaped chain) (run_tokens at n opens closes)
-            (held_ends at p chain h o (byte at (omega arith) (omega arith))) (run_in_order at n opens closes facts.marks);
-      }
+      order_next at (at + n) false p chain (run_tokens at n opens closes) h o (byte at (omega arith) (omega arith))
+      (place_past (at + n) (omega arith) (byte (at + n - 1) (omega arith) (omega arith))) (run_in_order at n opens closes facts.marks)
 
   -- the texts stop at an offset, between two characters
   module _ (texts : List CowStr) (to : Spot) (stop : ℕ) (stops : IsCharBoundary s.text stop) (last_text : IsTextEnd s to.at stop) where
@@ -174,40 +162,40 @@ suffix_first p xs n within some =
     let k : ℕ = n - suffix_len p (take n xs) in
     (omega arith, ap p (sym (get_or-take n xs k 0 (omega arith))) ∙ last_passes p (take n xs) k (omega arith) (omega arith))
 
+-- a place between two characters, in the content from an offset on
+abbrev IsPlaceFrom : List ℕ → ℕ → ℕ → Type 0
+IsPlaceFrom text start at = (start ≤ at) × IsCharBoundary text at
+
+-- if only ASCII bytes pass a test, a content ends between two characters also without the bytes at its end that pass
+suffix_place : (p : ℕ → Bool) → ((b : ℕ) → p b ≡ true → b < ascii_end) → (text : List ℕ) (start end : ℕ) → start ≤ end → end ≤ length text
+    → IsCharBoundary text end → IsPlaceFrom text start (end - suffix_len p (slice_range text start end))
+suffix_place p small text start end order within boundary =
+    let n : ℕ = suffix_len p (slice_range text start end) in
+    let short : n ≤ end - start = end_bounded p text start start end (omega arith) order within (inl refl) in
+    elim (cases_lt 0 n) [
+      | inl some ↦
+          let first = content_passes p text start end (end - n) order (omega arith) (omega arith) (omega arith) in
+          (omega arith, IsCharBoundary-before_ascii text (end - n) (omega arith) (small _ first))
+      | inr none ↦ let whole : end ≡ end - n = omega arith in subst (IsPlaceFrom text start) whole (order, boundary)
+    ]
+
 -- The end of a line without the white space there is between characters.
 pub trimmed_boundary : (text : List ℕ) (from : ℕ) → IsUtf8 text → IsCharBoundary text from
     → let m : ℕ = line_len (drop from text) in IsCharBoundary text (from + m - suffix_len is_white_or_line_end (take m (drop from text)))
 trimmed_boundary text from u b =
     let m : ℕ = line_len (drop from text) in
-    let w : ℕ = suffix_len is_white_or_line_end (take m (drop from text)) in
-    let fits = line_len-fits (drop from text) in
-    let rest = length-drop from text in
-    elim (cases_lt 0 w) as (λ _. IsCharBoundary text (from + m - w)) [
-      | inl some ↦ (
-          let first = suffix_first is_white_or_line_end (drop from text) m fits some in
-          let ascii : (k : ℕ) → is_white_or_line_end k ≡ true → k < ascii_end = λ k h. grind (arith, nat_tests, h) in
-          let small = ascii _ (ap is_white_or_line_end (sym (get_or-drop from text (m - w) 0)) ∙ first.1) in
-          let there : from + (m - w) ≡ from + m - w = omega (arith, first.0) in
-          subst (IsCharBoundary text) there (IsCharBoundary-before_ascii text (from + (m - w)) (omega (arith, some, first.0, fits, rest, b.0)) small))
-      | inr none ↦ elim (cases_lt from (length text)) as (λ _. IsCharBoundary text (from + m - w)) [
-        | inl inside ↦ (let e : from + m ≡ from + m - w = omega arith in subst (IsCharBoundary text) e (line_end_boundary text from u b inside))
-        | inr past ↦ (let e : from ≡ from + m - w = omega (arith, none, fits, rest, past) in subst (IsCharBoundary text) e b)
-      ]
-    ]
+    let fits : m ≤ length text - from = omega (arith, line_len-fits (drop from text), length-drop from text) in
+    let size : from + m - from ≡ m = omega arith in
+    let end : IsCharBoundary text (from + m) = elim (cases_lt from (length text)) [
+      | inl inside ↦ line_end_boundary text from u b inside
+      | inr past ↦ let e : from ≡ from + m = omega arith in subst (IsCharBoundary text) e b
+    ] in
+    let place = suffix_place is_white_or_line_end (λ k h. grind (arith, nat_tests, h)) text from (from + m) (omega arith) (omega (arith, b.0)) end in
+    subst (λ (k : ℕ). IsCharBoundary text (from + m - suffix_len is_white_or_line_end (take k (drop from text)))) size place.1
 
 -- a byte at which a content ends is in ASCII
 end_byte : (s : Inline) (b : ℕ) → (is_line_end b ≡ true) ⊎ (ends_cell s b ≡ true) → (0 < b) × (b < ascii_end)
-end_byte s b (inl line) = (grind (arith, nat_tests, line), grind (arith, nat_tests, line))
-end_byte s b (inr cell) =
-    let is_pipe = eqb-true b pipe (and_parts (has s.options tables) (b == pipe) (and_parts s.row _ cell).1).1 in
-    (omega arith, omega arith)
-
-white_small : (b : ℕ) → is_white b ≡ true → b < ascii_end
-white_small b h = grind (arith, nat_tests, h)
-
--- a place between two characters, in the content from an offset on
-abbrev IsPlaceFrom : List ℕ → ℕ → ℕ → Type 0
-IsPlaceFrom text start at = (start ≤ at) × IsCharBoundary text at
+end_byte s b h = (grind (arith, nat_tests, h), grind (arith, nat_tests, h))
 
 -- a content ends between two characters
 pub content_boundary : (s : Inline) (end : ℕ) → end ≤ length s.text → content_ends_at s end ≡ true → IsCharBoundary s.text end
@@ -233,13 +221,7 @@ blanks_place : (s : Inline) (end : ℕ)
     → s.start ≤ end → end ≤ length s.text → IsCharBoundary s.text end → IsPlaceFrom s.text s.start (end - blanks_at_end s end)
 unfolding blanks_at_end
 blanks_place s end order within boundary =
-    let short = end_bounded is_white s.text s.start s.start end (omega arith) order within (inl refl) in
-    elim (cases_lt 0 (blanks_at_end s end)) [
-      | inl some ↦
-          let first = content_passes is_white s.text s.start end (end - blanks_at_end s end) order (omega arith) (omega arith) (omega arith) in
-          (omega arith, IsCharBoundary-before_ascii s.text (end - blanks_at_end s end) (omega arith) (white_small _ first))
-      | inr none ↦ let whole : end ≡ end - blanks_at_end s end = omega arith in subst (IsPlaceFrom s.text s.start) whole (order, boundary)
-    ]
+    suffix_place is_white (λ b h. grind (arith, nat_tests, h)) s.text s.start end order within boundary
 
 -- the end of the last text of a content
 text_end_place : (s : Inline) (end : ℕ) → s.start ≤ end → end ≤ length s.text → IsCharBoundary s.text end → IsPlaceFrom s.text s.start (text_end s end)
@@ -260,37 +242,12 @@ pub record StandsAfter (text : List ℕ) (at next : ℕ) (x : Item) : Type 0 whe
 break_stands : (s : Inline) (end next : ℕ) → next ≡ end + line_end_len s end → s.start ≤ end → end ≤ length s.text → IsCharBoundary s.text end
     → IsCharBoundary s.text next → IfSome (line_break s end) (StandsAfter s.text (text_end s end) next)
 unfolding line_break text_end
-break_stands s end next is order within boundary ends =
-    cond_both (nat_le (length s.text) end) None _ (λ (o : Option Item). IfSome o (StandsAfter s.text (text_end s end) next)) (λ b. tt)
-    (λ b. elim (cases_Bool (breaks_by_backslash s end)) [
-      | inl breaks ↦
-          let last = backslash_place s end order within breaks in
-          let following : end - 1 + 1 ≡ end = omega (arith, last.0) in
-          rw (← is, breaks) (record {
-            from = omega arith;
-            order = omega arith;
-            to = refl;
-            starts = last.1.1;
-            ends = ends;
-            by_backslash = λ h. (omega arith, rw following boundary);
-          })
-      | inr other ↦
-          let starts = (blanks_place s end order within boundary).1 in
-          rw (← is, other) (cond_both (nat_le 2 (blanks_at_end s end)) _ _ (StandsAfter s.text (end - blanks_at_end s end) next)
-          (λ hard. record { from = omega arith; order = omega arith; to = refl; starts = starts; ends = ends; by_backslash = λ h. absurd (false≢true h) })
-          (λ soft. record { from = omega arith; order = omega arith; to = refl; starts = boundary; ends = ends; by_backslash = λ h. absurd (false≢true h) }))
-    ])
+break_stands s end next is order within boundary ends = grind (arith, cond_both, cases_Bool, backslash_place, blanks_place, false≢true)
 
 -- a line ends between two characters
 pub line_end_place : {s : Inline} {answer : ℕ × Option Item}
     → IsUtf8 s.text → IsCharBoundary s.text s.start → EndsLine s answer → IsCharBoundary s.text answer.0
-line_end_place {s} {answer} utf8 boundary ends =
-    let within : answer.0 ≤ length s.text = ends.within in
-    let from : s.start ≤ answer.0 = ends.from in
-    elim (cases_lt s.start (length s.text)) [
-      | inl more ↦ subst (IsCharBoundary s.text) (sym ends.place) (line_end_boundary s.text s.start utf8 boundary more)
-      | inr past ↦ let e : answer.0 ≡ length s.text = omega arith in subst (IsCharBoundary s.text) (sym e) (IsCharBoundary-end s.text)
-    ]
+line_end_place {s} {answer} utf8 boundary ends = grind (arith, cases_lt, line_end_boundary)
 
 -- The tokens of a line are in order from its start up to an offset, its break is after that, and the line ends
 -- between two characters.

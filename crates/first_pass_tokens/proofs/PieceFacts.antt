@@ -1,16 +1,14 @@
 -- The piece at a place, case by case: its bytes and its token. Other facts on pieces follow only from these.
-use Rattle.std.proofs.Common.{◌≡◌, ℕ, ◌+◌, ◌-◌, ◌≤◌, ◌<◌, ◌==◌, ◌&&◌, not, Bool, true, false, List, length, drop, slice_index, Option, Some, unwrap_or}
-use Rattle.std.proofs.Common.{refl, sym, ap, subst, ◌∙◌, inl, inr, arith, length-drop, ◌||◌, suc, nat_lt, None, get_or-drop, eqb-true, eq-eqb, ltb-true}
-use Rattle.std.proofs.Common.{ne_eqb}
+use Rattle.std.proofs.Common.{◌≡◌, ℕ, ◌+◌, ◌-◌, ◌≤◌, ◌<◌, ◌==◌, ◌&&◌, not, Bool, true, false, List, length, drop, slice_index, Option, Some, unwrap_or, refl}
+use Rattle.std.proofs.Common.{sym, ap, subst, ◌∙◌, inl, inr, arith, length-drop, ◌||◌, suc, nat_lt, None, get_or-drop, eqb-true, eq-eqb, ltb-true, ne_eqb}
 use Rattle.std.specs.Option.{option_map_or}
 use Rattle.std.specs.Char.{is_ascii_punctuation}
 use Rattle.std.specs.List.{prefix_len}
 use Rattle.std.proofs.lemmas.List.{get_or_past, at_drop_more}
 use Rattle.std.proofs.lemmas.List.Sums.{prefix_len_passes, prefix_len_stops, prefix_len-le-length}
-use Rattle.std.proofs.lemmas.Bool.{cases_lt, cond_both, cond-true, cond-false, and_parts, or_parts, false≢true, not_from_true, not_from_false}
+use Rattle.std.proofs.lemmas.Bool.{cases_lt, cond_both, cond-true, cond-false, and_parts, false≢true}
 use Rattle.std.proofs.lemmas.Bool.Decides.{nat_tests}
-use Rattle.first_pass_items.specs.Bytes.{exclamation_mark, dollar_sign, ampersand, hyphen, full_stop, less_than, left_bracket, backslash, right_bracket}
-use Rattle.first_pass_items.specs.Bytes.{backquote, left_brace, pipe, right_brace}
+use Rattle.first_pass_items.specs.Bytes.{dollar_sign, ampersand, hyphen, full_stop, backslash, backquote, left_brace, pipe, right_brace}
 use Rattle.first_pass_items.specs.declared.cow_str.CowStr.{CowStr}
 use Rattle.first_pass_items.specs.declared.item.ItemBody.{ItemBody}
 use Rattle.first_pass_items.specs.declared.option_set.Options.{Options}
@@ -19,9 +17,8 @@ use Rattle.first_pass_items.specs.declared.item.ItemBody.TheVariants.{MaybeCode,
 use Rattle.first_pass_tree.specs.Forest.{is_text, is_escaped}
 use Rattle.first_pass_lines.specs.Lines.{is_line_end, is_white}
 use Rattle.first_pass_entities.specs.Entities.{entity_at}
-use Rattle.first_pass_entities.proofs.EntityFacts.{is_reference_byte}
-use Rattle.first_pass_walk.specs.Walk.{is_special, begins_token}
-use Rattle.first_pass_walk.proofs.WalkFacts.{isnt}
+use Rattle.first_pass_entities.proofs.EntityFacts.{is_reference_byte, entity_is_reference}
+use Rattle.first_pass_walk.specs.Walk.{is_special}
 use Rattle.first_pass_flank.specs.declared.flank.DelimiterRun.{DelimiterRun}
 use Rattle.first_pass_flank.specs.Flank.{can_open, can_close}
 use Rattle.first_pass_tokens.specs.declared.pieces.TokenStart.{TokenStart}
@@ -29,12 +26,11 @@ use Rattle.first_pass_tokens.specs.declared.pieces.TokenStart.TheVariants.{Ready
 use Rattle.first_pass_tokens.specs.declared.pieces.Piece.{Piece}
 use Rattle.first_pass_tokens.specs.declared.pieces.Piece.TheVariants.{Left, Begins, Token, Run}
 use Rattle.first_pass_tokens.specs.MarkupBytes.{AreBackquotes, StandsOver, smart_char}
-use Rattle.first_pass_tokens.specs.Braces.{MathBraces, dollar_context}
+use Rattle.first_pass_tokens.specs.Braces.{MathBraces}
 use Rattle.first_pass_tokens.specs.NamedTexts.{MakesPiece}
 use Rattle.first_pass_tokens.specs.Pieces.{Inline, found_at, special_found, reference_found, dash_found, dollar_found, special_piece, backslash_piece}
 use Rattle.first_pass_tokens.specs.Pieces.{backslash_piece_in, backquote_piece, is_delimiter, is_too_long, run_in, run_size, is_quote, quote_piece, dot_piece}
 use Rattle.first_pass_tokens.specs.Pieces.{dash_piece, run_piece, delimiter_piece, bracket_piece, run_at, size}
-use Rattle.first_pass_tokens.proofs.ReferenceBytes.{reference_at}
 
 -- a visible ASCII character
 abbrev pub IsVisible : ℕ → Type 0
@@ -134,35 +130,17 @@ pub record MarkFacts (b : ℕ) : Type 0 where
   pub no_pipe : (b == pipe) ≡ false
 
 pub mark_facts : (b : ℕ) → IsMark b → MarkFacts b
-mark_facts b h = record {
-  visible = (grind (arith, nat_tests, h), grind (arith, nat_tests, h));
-  solid = grind (arith, nat_tests, h);
-  no_backslash = grind (arith, nat_tests, h);
-  no_pipe = grind (arith, nat_tests, h);
-}
-
-delimiter_mark : (b : ℕ) → is_delimiter b ≡ true → IsMark b
-delimiter_mark b h = grind (arith, nat_tests, h)
-
-delimiter_other : (b : ℕ) → is_delimiter b ≡ true → (b == backquote) ≡ false
-delimiter_other b h = grind (arith, nat_tests, h)
+mark_facts b h = grind (arith, nat_tests)
 
 quote_mark : (b : ℕ) → is_quote b ≡ true → IsMark b
 quote_mark b h = grind (arith, nat_tests, h)
-
-reference_mark : (b : ℕ) → is_reference_byte b ≡ true → IsMark b
-reference_mark b h = grind (arith, nat_tests, h)
 
 punctuation_visible : (b : ℕ) → is_ascii_punctuation b ≡ true → IsVisible b
 punctuation_visible b h = (grind (arith, nat_tests, h), grind (arith, nat_tests, h))
 
 -- a byte that is not 0 is within the text
 pub at_byte : (text : List ℕ) (at : ℕ) → 0 < slice_index text at → at < length text
-at_byte text at some =
-    elim (cases_lt at (length text)) [
-      | inl within ↦ within
-      | inr past ↦ let none = get_or_past text at 0 past in absurd (omega arith)
-    ]
+at_byte text at some = grind (arith, cases_lt, get_or_past)
 
 -- a visible character is no line ending
 pub visible_plain : (b : ℕ) → IsVisible b → is_line_end b ≡ false
@@ -173,11 +151,7 @@ module _ (text : List ℕ) (at : ℕ) where
   each_one P here k low high = (let same : at ≡ k = omega arith in subst (λ (x : ℕ). P (slice_index text x)) same here)
 
   each_more : (P : ℕ → Type 0) (n : ℕ) → Each P text at n → P (slice_index text (at + n)) → Each P text at (n + 1)
-  each_more P n front last k low high =
-      elim (cases_lt k (at + n)) [
-        | inl before ↦ front k low before
-        | inr later ↦ let same : at + n ≡ k = omega arith in subst (λ (x : ℕ). P (slice_index text x)) same last
-      ]
+  each_more P n front last k low high = grind (arith, cases_lt)
 
   -- a run of equal bytes
   pub run_same : (k : ℕ) → at ≤ k → k < at + run_at text at → slice_index text k ≡ slice_index text at
@@ -228,14 +202,7 @@ module _ (text : List ℕ) (at : ℕ) where
   -- a token without a dropped backslash
   undropped_token : (n : ℕ) (body : ItemBody) → 0 < n → Each IsMark text at n → is_markup body ≡ true → StandsOver text at (at + n) body
       → IsMarkup text at 0 n body
-  undropped_token n body some marks kind over = record {
-    some = some;
-    bound = omega arith;
-    backslashes = λ k low high. absurd (omega arith);
-    marks = λ k low high. marks k (omega arith) (omega arith);
-    kind = kind;
-    over = let here : at ≡ at + 0 = omega arith in subst (λ (x : ℕ). StandsOver text x (x + n) body) here over;
-  }
+  undropped_token n body some marks kind over = grind arith
 
   -- a token of one byte
   one_byte : (b : ℕ) (body : ItemBody) → slice_index text at ≡ b → IsMark b → is_markup body ≡ true → StandsOver text at (at + 1) body
@@ -245,19 +212,12 @@ module _ (text : List ℕ) (at : ℕ) where
   -- a run of hyphens, as a token
   hyphens_token : (n : ℕ) (body : ItemBody) → slice_index text at ≡ hyphen → n ≡ run_at text at → 0 < n → is_markup body ≡ true
       → (Each (λ b. b ≡ hyphen) text at n → StandsOver text at (at + n) body) → IsMarkup text at 0 n body
-  hyphens_token n body is run some kind over =
-      let alike : Each (λ b. b ≡ hyphen) text at n = λ k low high. run_same k low (omega (arith, run, high)) ∙ is in
-      undropped_token n body some (λ k low high. ap is_mark (alike k low high)) kind (over alike)
+  hyphens_token n body is run some kind over = grind (arith, run_same, undropped_token)
 
 module _ (text : List ℕ) (at : ℕ) (within : at < length text) where
   -- one byte of plain text
   one_left : (slice_index text at == backquote) ≡ false → IsLeft text at 1
-  one_left other = record {
-    some = omega arith;
-    fits = omega arith;
-    same = each_one text at (λ b. b ≡ slice_index text at) refl;
-    other = other;
-  }
+  one_left other = grind (arith, each_one)
 
   -- a run as plain text
   run_left : (n : ℕ) → n ≡ run_at text at → (slice_index text at == backquote) ≡ false → IsLeft text at n
@@ -276,44 +236,22 @@ module _ (text : List ℕ) (at : ℕ) (within : at < length text) where
         record {
           some = omega (arith, run_some text at within, size);
           all = size;
-          marks = λ k low high. subst IsMark (sym (run_same text at k low (omega (arith, size)))) (delimiter_mark (slice_index text at) delimiter);
+          marks = λ k low high. subst IsMark (sym (run_same text at k low (omega (arith, size)))) (grind (arith, nat_tests, delimiter));
           delimiter = delimiter;
         },
         tt,
       ))
-      (λ left. (run_left r.size size (delimiter_other (slice_index text at) delimiter), tt))
+      (λ left. (run_left r.size size (grind (arith, nat_tests, delimiter)), tt))
 
   -- a run of backquotes
   backquotes : slice_index text at ≡ backquote → AreBackquotes text at (run_at text at)
-  backquotes is = record {
-    some = run_some text at within;
-    each = λ k low high. run_same text at k low high ∙ is;
-    following = ap (λ (b : ℕ). slice_index text (at + run_at text at) == b) (sym is) ∙ run_stops text at (omega (arith, is));
-  }
+  backquotes is = grind (arith, run_some, run_same, run_stops)
 
 module _ (text : List ℕ) (at : ℕ) (within : at < length text) where
   -- a backslash, and the bytes before which it is dropped
   backslash_facts : slice_index text at ≡ backslash → IsReady text at (backslash_piece text at)
   unfolding backslash_piece
-  backslash_facts is =
-      cond_both (slice_index text (at + 1) == backquote) _ _ (IsReady text at)
-      (λ h. let here : at + 1 - 1 ≡ at = omega arith in
-      let next = eqb-true (slice_index text (at + 1)) backquote h in
-      let run = backquotes text (at + 1) (at_byte text (at + 1) (omega arith)) next in (
-        record {
-          some = run.some;
-          bound = omega arith;
-          backslashes = each_one text at (λ b. b ≡ backslash) is;
-          marks = λ k low high. ap is_mark (run.each k low high);
-          kind = refl;
-          over = (refl, run, λ e. ap (slice_index text) here ∙ is);
-        },
-        refl,
-      ))
-      (λ other. cond_both (is_ascii_punctuation (slice_index text (at + 1))) (Begins 1 true) (Left 1) (IsReady text at)
-      (λ punctuation.
-      (record { some = omega arith; backslashes = each_one text at (λ b. b ≡ backslash) is; punctuation = punctuation; other = other }, tt))
-      (λ left. (one_left text at within (ap (λ (x : ℕ). x == backquote) is), tt)))
+  backslash_facts is = grind (arith, cond_both, backquotes, at_byte, each_one, one_left)
 
   -- in a row it is dropped before a pipe, and so are two of them
   backslash_in_facts : (row : Bool) → slice_index text at ≡ backslash → IsReady text at (backslash_piece_in row text at)
@@ -333,24 +271,7 @@ module _ (text : List ℕ) (at : ℕ) (within : at < length text) where
   -- the piece at a byte that may open or close a link, an image or HTML
   bracket_facts : (slice_index text at == backquote) ≡ false → IsReady text at (bracket_piece text at)
   unfolding bracket_piece
-  bracket_facts h₂ =
-      let holds : Piece → Type 0 = IsReady text at in
-      let b = slice_index text at in
-      cond_both (b == less_than && not (slice_index text (at + 1) == backslash)) _ _ holds
-      (λ h. let is = eqb-true b less_than (and_parts (b == less_than) _ h).0 in (one_byte text at less_than MaybeHtml is refl refl (refl, is), refl))
-      (λ h₃. cond_both (b == exclamation_mark && slice_index text (at + 1) == left_bracket) _ _ holds
-      (λ h. let both = and_parts (b == exclamation_mark) (slice_index text (at + 1) == left_bracket) h in
-      let is = eqb-true b exclamation_mark both.0 in
-      let next = eqb-true (slice_index text (at + 1)) left_bracket both.1 in (
-        undropped_token text at 2 MaybeImage (omega arith) (each_more text at IsMark 1 (each_one text at IsMark (ap is_mark is)) (ap is_mark next)) refl
-            (refl, is, next),
-        refl,
-      ))
-      (λ h₄. cond_both (b == left_bracket) _ _ holds
-      (λ h. let is = eqb-true b left_bracket h in (one_byte text at left_bracket MaybeLinkOpen is refl refl (refl, is), refl))
-      (λ h₅. cond_both (b == right_bracket) _ _ holds
-      (λ h. let is = eqb-true b right_bracket h in (one_byte text at right_bracket (MaybeLinkClose true) is refl refl (refl, is, refl), refl))
-      (λ h₆. (one_left text at within h₂, tt)))))
+  bracket_facts h₂ = grind (arith, cond_both, and_parts, one_byte, undropped_token, each_more, each_one, one_left)
 
   -- the piece at a full stop
   dot_facts : slice_index text at ≡ full_stop → IsReady text at (dot_piece text at)
@@ -379,17 +300,9 @@ module _ (text : List ℕ) (at : ℕ) (within : at < length text) where
       (λ h. (token 3 0x2014 h (omega arith) refl, refl))
       (λ left. (run_left text at within (run_at text at) refl (ap (λ (x : ℕ). x == backquote) is), tt)))
 
--- the run at a delimiter is no quote
-delimiter_size : (text : List ℕ) (at : ℕ) → is_delimiter (slice_index text at) ≡ true → run_size text at ≡ run_at text at
-unfolding run_size
-delimiter_size text at h =
-    let b = slice_index text at in
-    let other : is_quote b ≡ false = grind (arith, nat_tests, h) in
-    cond-false _ _ _ other
-
 -- the piece at a special byte other than an ampersand or a hyphen
 special_facts : (s : Inline) (at : ℕ) → at < length s.text → IsReady s.text at (special_piece s at)
-unfolding special_piece backquote_piece delimiter_piece quote_piece run_in
+unfolding special_piece backquote_piece delimiter_piece quote_piece run_in run_size
 special_facts s at within =
     let text = s.text in
     let holds : Piece → Type 0 = IsReady text at in
@@ -401,15 +314,31 @@ special_facts s at within =
           (refl, run, λ e. absurd (false≢true e)),
       refl,
     ))
-    (λ h₂. cond_both (is_delimiter b) _ _ holds (λ h. run_piece_facts text at within h _ (delimiter_size text at h))
+    (λ h₂. cond_both (is_delimiter b) _ _ holds
+    (λ h. let other : is_quote b ≡ false = grind (arith, nat_tests, h) in run_piece_facts text at within h _ (cond-false _ _ _ other))
     (λ h₃. cond_both (is_quote b) _ _ holds (λ h. (one_byte text at b (MaybeSmartQuote b _ _) refl (quote_mark b h) refl (refl, refl, h), refl))
     (λ h₄. cond_both (b == full_stop) _ _ holds (λ h. dot_facts text at within (eqb-true b full_stop h)) (λ h₅. bracket_facts text at within h₂)))))
 
--- a byte that is not special differs from any byte that is special under all options
-pub off : (b c : ℕ) (options : Options) → begins_token c ≡ true → is_special options b ≡ false → (b == c) ≡ false
+-- a byte that is not special is no backquote
+plain_byte : (b : ℕ) (options : Options) → is_special options b ≡ false → (b == backquote) ≡ false
 unfolding is_special
-off b c options marked plain =
-    isnt (λ (x : ℕ). not (begins_token x)) b c (not_from_false _ (or_parts (begins_token b) _ plain).0) (not_from_true _ marked)
+plain_byte b options plain = grind (arith, nat_tests, plain)
+
+-- a reference in a text: it is not empty, and each byte of it is `&`, `#`, an ASCII letter or digit, or `;`
+pub record IsReferenceAt (text : List ℕ) (at n : ℕ) : Type 0 where
+  pub some : 0 < n
+  pub bytes : (k : ℕ) → at ≤ k → k < at + n → is_reference_byte (slice_index text k) ≡ true
+
+pub reference_at : (text : List ℕ) (at n c : ℕ) → entity_at (drop at text) ≡ Some (n, c) → IsReferenceAt text at n
+reference_at text at n c e =
+    let h = (entity_is_reference (drop at text) n c e).ends in
+    record {
+      some = h.some;
+      bytes = λ k low high.
+          let place : at + (k - at) ≡ k = omega arith in
+          let passes = prefix_len_passes is_reference_byte (drop at text) (k - at) 0 (omega (arith, h.bytes)) in
+          ap (λ (x : ℕ). is_reference_byte (slice_index text x)) (sym place) ∙ ap is_reference_byte (sym (get_or-drop at text (k - at) 0)) ∙ passes;
+    }
 
 -- the bytes of the piece found at a place; a piece that is ready names no text
 abbrev pub IsFoundAt : List ℕ → ℕ → TokenStart → Type 0
@@ -443,7 +372,7 @@ found_facts s at within =
     (λ h₂. cond_both (b == dollar_sign) (dollar_found s at) _ holds (λ h. eqb-true b dollar_sign h)
     (λ h₃. cond_both (b == left_brace) OpenBrace _ holds (λ h. left left_brace h refl)
     (λ h₄. cond_both (b == right_brace) CloseBrace _ holds (λ h. left right_brace h refl) (λ h₅. special_facts s at within))))))
-    (λ plain. (one_left text at within (off b backquote s.options refl plain), tt))
+    (λ plain. (one_left text at within (plain_byte b s.options plain), tt))
 
 -- the piece at a place, completed
 pub becomes_facts : (texts : List CowStr) (b : MathBraces) (text : List ℕ) (at : ℕ) (found : TokenStart) (p : Piece) → IsFoundAt text at found
@@ -452,13 +381,12 @@ becomes_facts texts b text at (Ready piece) p facts is = subst (IsPieceAt text a
 becomes_facts texts b text at (Reference n c) p facts is =
     let r = reference_at text at n c facts in
     subst (IsPieceAt text at) (sym is.2) (undropped_token text at n (SynthesizeText is.0) r.some
-    (λ k low high. reference_mark (slice_index text k) (r.bytes k low high)) refl (inl (record { n = n; char = c; to = refl; referred = facts })))
+    (λ k low high. grind (arith, nat_tests, r.bytes k low high)) refl (inl (record { n = n; char = c; to = refl; referred = facts })))
 becomes_facts texts b text at (Dashes n) p facts is =
     let (run, many, here) = facts in
     subst (IsPieceAt text at) (sym is.2) (hyphens_token text at n (SynthesizeText is.0) here run (omega arith) refl
     (λ alike. inr (record { to = ap (λ (k : ℕ). at + k) run; many = subst (λ (k : ℕ). 3 < k) run many; hyphens = here })))
-becomes_facts texts b text at (Dollar opens closes) p facts is =
-    subst (IsPieceAt text at) (sym is) (one_byte text at dollar_sign (MaybeMath opens closes (dollar_context b)) facts refl refl (refl, facts))
+becomes_facts texts b text at (Dollar opens closes) p facts is = grind (arith, one_byte)
 becomes_facts texts b text at _ p facts is = subst (IsPieceAt text at) (sym is) facts
 
 -- a byte of a piece: in plain text it is equal to the first one, in any other piece it is visible
@@ -469,18 +397,8 @@ IsByteOf text at _ k = IsVisible (slice_index text k)
 pub piece_byte : (text : List ℕ) (at : ℕ) (p : Piece) → IsPieceAt text at p → (k : ℕ) → at ≤ k → k < at + size p → IsByteOf text at p k
 piece_byte text at (Left n) facts k low high = (facts.same k low high, omega (arith, facts.fits))
 piece_byte text at (Run n opens closes) facts k low high = (mark_facts _ (facts.marks k low high)).visible
-piece_byte text at (Begins dropped escaped) facts k low high =
-    elim (cases_lt k (at + dropped)) [
-      | inl before ↦ let byte = facts.backslashes k low before in (omega arith, omega arith)
-      | inr last ↦
-          let same : at + dropped ≡ k = omega arith in
-          subst (λ (x : ℕ). IsVisible (slice_index text x)) same (punctuation_visible _ facts.punctuation)
-    ]
-piece_byte text at (Token dropped n body) facts k low high =
-    elim (cases_lt k (at + dropped)) [
-      | inl before ↦ let byte = facts.backslashes k low before in (omega arith, omega arith)
-      | inr later ↦ (mark_facts _ (facts.marks k later (omega arith))).visible
-    ]
+piece_byte text at (Begins dropped escaped) facts k low high = grind (arith, cases_lt, punctuation_visible)
+piece_byte text at (Token dropped n body) facts k low high = grind (arith, cases_lt, mark_facts)
 
 -- a piece has at least one byte
 pub piece_some : (text : List ℕ) (at : ℕ) (p : Piece) → IsPieceAt text at p → 0 < size p

@@ -1,17 +1,16 @@
 -- The pieces that `quick_piece` finds at once.
-use Rattle.std.proofs.Common.{◌≡◌, inl, inr, ℕ, ◌+◌, ◌<◌, ◌==◌, Bool, false, true, List, length, refl, sym, ap, ◌∙◌, arith, slice_index, eq-eqb}
+use Rattle.std.proofs.Common.{◌≡◌, ℕ, ◌+◌, ◌<◌, ◌==◌, Bool, false, true, List, length, refl, sym, ap, arith, slice_index}
 use Rattle.std.proofs.lemmas.Bool.{cases_lt}
 use Rattle.std.proofs.lemmas.Bool.Decides.{nat_tests}
 use Rattle.std.specs.Char.{is_ascii_punctuation}
-use Rattle.first_pass_items.specs.Bytes.{ampersand, dollar_sign, left_brace, right_brace, less_than, left_bracket, backslash, backquote, pipe}
-use Rattle.first_pass_items.specs.Bytes.{right_bracket, exclamation_mark, full_stop, hyphen}
+use Rattle.first_pass_items.specs.Bytes.{ampersand, dollar_sign, left_brace, right_brace, less_than, left_bracket, backslash, backquote, pipe, right_bracket}
+use Rattle.first_pass_items.specs.Bytes.{exclamation_mark, full_stop, hyphen}
 use Rattle.first_pass_items.specs.declared.item.ItemBody.TheVariants.{MaybeHtml, MaybeLinkOpen, MaybeLinkClose}
 use Rattle.first_pass_tokens.specs.declared.pieces.Piece.TheVariants.{Token, Left}
 use Rattle.first_pass_tokens.specs.declared.pieces.Piece.{Piece}
 use Rattle.first_pass_tokens.specs.declared.pieces.TokenStart.TheVariants.{Ready}
 use Rattle.first_pass_tokens.specs.Pieces.{Inline, is_delimiter, delimiter_piece, special_found, special_piece, backslash_piece, backslash_piece_in}
-use Rattle.first_pass_tokens.specs.Pieces.{bracket_piece, dot_piece}
-use Rattle.first_pass_tokens.specs.Pieces.{dash_found, dash_piece, run_at, IsReadyAt}
+use Rattle.first_pass_tokens.specs.Pieces.{bracket_piece, dot_piece, dash_found, dash_piece, run_at, IsReadyAt}
 use Rattle.first_pass_walk.proofs.WalkFacts.{isnt}
 use Rattle.first_pass_tokens.proofs.PieceFacts.{run_some, run_same}
 
@@ -55,14 +54,7 @@ backslash_ready z at here other = rw here (ap Ready (backslash_left z.row z.text
 
 -- a byte with no equal one after it is a run of one
 pub run_one : (text : List ℕ) (at b : ℕ) → at < length text → slice_index text at ≡ b → (slice_index text (at + 1) == b) ≡ false → run_at text at ≡ 1
-run_one text at b within here other =
-    elim (cases_lt 1 (run_at text at)) as (λ _. run_at text at ≡ 1) [
-      | inl more ↦
-          let same = run_same text at (at + 1) (omega arith) (omega (arith, more)) ∙ here in
-          let is : true ≡ false = sym (ap (λ x. x == b) same ∙ eq-eqb b b refl) ∙ other in
-          absurd cc
-      | inr most ↦ omega (arith, run_some text at within)
-    ]
+run_one text at b within here other = grind (arith, cases_lt, run_same, run_some)
 
 pub hyphen_ready : (z : Inline) (at : ℕ) → at < length z.text → slice_index z.text at ≡ hyphen → (slice_index z.text (at + 1) == hyphen) ≡ false
     → IsReadyAt z at (Left 1)

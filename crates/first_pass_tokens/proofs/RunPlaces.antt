@@ -4,7 +4,7 @@ use Rattle.std.proofs.Common.{subst, ◌∙◌, inl, inr, arith, length-take, ge
 use Rattle.std.proofs.lemmas.Bool.{cases_lt, cond_both}
 use Rattle.std.proofs.lemmas.Bool.Decides.{nat_tests}
 use Rattle.std.proofs.lemmas.Str.{IsCharBoundary-after_ascii}
-use Rattle.first_pass_tokens.specs.Pieces.{text_upto, is_delimiter, is_quote, run_at, run_size}
+use Rattle.first_pass_tokens.specs.Pieces.{text_upto, is_delimiter, is_quote, run_size}
 use Rattle.first_pass_tokens.proofs.PieceFacts.{IsVisible, run_same}
 
 -- a byte of the first bytes of a text is a byte of the text
@@ -26,21 +26,16 @@ front_upto whole text (Some e) is =
       | inr past ↦ is ∙ take_all e whole past ∙ sym (take_all (length text) whole (omega arith))
     ]
 
-either_visible : (b : ℕ) → is_delimiter b || is_quote b ≡ true → IsVisible b
-either_visible b h = (grind (arith, nat_tests, h), grind (arith, nat_tests, h))
-
 run_alike : (text : List ℕ) (at k : ℕ) → at ≤ k → k < at + run_size text at → slice_index text k ≡ slice_index text at
 unfolding run_size
-run_alike text at k low high =
-    cond_both (is_quote (slice_index text at)) 1 (run_at text at) (λ (n : ℕ). k < at + n → slice_index text k ≡ slice_index text at)
-    (λ quote. λ one. let here : k ≡ at = omega arith in ap (slice_index text) here) (λ other. λ run. run_same text at k low run) high
+run_alike text at k low high = grind (arith, cond_both, run_same)
 
 -- a run ends between two characters of the whole text
 pub run_place : (whole text : List ℕ) (at n : ℕ) → IsUtf8 whole → text ≡ take (length text) whole
     → is_delimiter (slice_index text at) || is_quote (slice_index text at) ≡ true → n ≡ run_size text at → 0 < n → at + n ≤ length text
     → IsCharBoundary whole (at + n) × (at + n ≤ length whole)
 run_place whole text at n utf8 front here run some fits =
-    let byte = either_visible (slice_index text at) here in
+    let byte : IsVisible (slice_index text at) = (grind (arith, nat_tests, here), grind (arith, nat_tests, here)) in
     let last = front_byte whole text (at + n - 1) front (omega arith) in
     let same = run_alike text at (at + n - 1) (omega arith) (omega (arith, run)) in
     let past : at + n - 1 + 1 ≡ at + n = omega arith in (

@@ -1,15 +1,16 @@
 -- The part of a content that is read, and the tokens appended for it.
-use Rattle.std.proofs.Common.{ℕ, zero, suc, ◌≡◌, ◌⊎◌, ◌+◌, ◌-◌, ◌≤◌, ◌<◌, ◌==◌, ◌||◌, min, Bool, true, false, List, [], ◌∷◌, ◌++◌, length, slice_index}
-use Rattle.std.proofs.Common.{nat_le, Option, Result, Ok, Err, OnOk, IfOk, refl, sym, ap, subst, ◌∙◌, inl, inr, arith, le-leb}
+use Rattle.std.proofs.Common.{ℕ, zero, suc, ◌≡◌, ◌⊎◌, ◌+◌, ◌-◌, ◌≤◌, ◌<◌, ◌==◌, min, Bool, true, false, List, [], ◌∷◌, ◌++◌, length, slice_index}
+use Rattle.std.proofs.Common.{Option, Result, Ok, Err, OnOk, IfOk, refl, sym, ap, subst, ◌∙◌, inl, inr, arith, le-leb}
 use Rattle.std.specs.declared.alloc.AllocError.{AllocError}
-use Rattle.std.proofs.lemmas.Bool.{cases_lt, lt-leb, or_from, or_parts, or_left, and_right, cond_both, cond-true, cond-false}
+use Rattle.std.proofs.lemmas.Bool.Decides.{nat_tests}
+use Rattle.std.proofs.lemmas.Bool.{cases_lt, lt-leb, or_from, or_parts, or_left, cond_both, cond-true, cond-false}
 use Rattle.first_pass_items.specs.declared.cow_str.CowStr.{CowStr}
 use Rattle.first_pass_tokens.specs.Braces.{MathBraces, braces_after}
 use Rattle.first_pass_items.specs.declared.item.Item.{Item}
 use Rattle.first_pass_tree.specs.Forest.{Forest, appended, with_text}
-use Rattle.first_pass_items.specs.Bytes.{line_feed, carriage_return, backslash, pipe}
-use Rattle.first_pass_lines.specs.Lines.{is_white, is_line_end}
-use Rattle.first_pass_walk.specs.Walk.{is_special, begins_token, begins_cell}
+use Rattle.first_pass_items.specs.Bytes.{backslash, pipe}
+use Rattle.first_pass_lines.specs.Lines.{is_white}
+use Rattle.first_pass_walk.specs.Walk.{is_special}
 use Rattle.first_pass_tokens.specs.declared.line.HeldText.{HeldText}
 use Rattle.first_pass_tokens.specs.declared.pieces.Piece.{Piece}
 use Rattle.first_pass_tokens.specs.declared.pieces.Piece.TheVariants.{Left, Begins, Token, Run}
@@ -18,12 +19,11 @@ use Rattle.first_pass_tokens.specs.declared.pieces.TokenStart.{TokenStart}
 use Rattle.first_pass_tokens.specs.declared.pieces.TokenStart.TheVariants.{Ready}
 use Rattle.first_pass_tokens.specs.NamedTexts.{MakesPiece, AreMore}
 use Rattle.first_pass_tokens.specs.Pieces.{Inline, found_at, special_found, special_piece, bracket_piece, run_at, size}
-use Rattle.first_pass_tokens.specs.LineTokens.{Spot, spot, content_ends_at, ends_cell, ArePieces, add_piece, add_pieces, text_end, breaks_by_backslash}
-use Rattle.first_pass_tokens.specs.LineTokens.{backslashes_at_end}
-use Rattle.first_pass_tokens.specs.LineTokens.{blanks_at_end, line_end_len, line_break, IsCell}
+use Rattle.first_pass_tokens.specs.LineTokens.{Spot, spot, content_ends_at, ArePieces, add_piece, add_pieces, text_end, breaks_by_backslash}
+use Rattle.first_pass_tokens.specs.LineTokens.{backslashes_at_end, blanks_at_end, line_end_len, line_break, IsCell}
 use Rattle.first_pass_tokens.specs.TreeTokens.{with_tokens, AppendsLine, AppendsCell}
 use Rattle.first_pass_tokens.specs.HeldText.{held_after, tree_after, IsHeldTo}
-use Rattle.first_pass_tokens.proofs.PieceFacts.{IsPieceAt, IsMark, mark_facts, run_same, piece_fits, markup_plain, off}
+use Rattle.first_pass_tokens.proofs.PieceFacts.{IsPieceAt, IsMark, mark_facts, run_same, piece_fits, markup_plain}
 use Rattle.first_pass_tokens.proofs.ChainLemmas.{add_text-none, add_text-joined, with_tokens-text, with_tokens-add, with_tokens-adds, with_token-plain}
 use Rattle.first_pass_tokens.proofs.NamedTexts.{pieces_more}
 use Rattle.first_pass_tokens.proofs.LineLemmas.{are_more, add_pieces_more, end_bounded, break_some, piece_of}
@@ -59,9 +59,7 @@ chain_after at (Run n opens closes) p chain = add_tokens (add_text p.begin at p.
 -- a pipe that ends no cell is a piece by itself
 pipe_piece : (z : Inline) (at : ℕ) → slice_index z.text at ≡ pipe → found_at z at ≡ Ready (Left 1)
 unfolding found_at special_found special_piece bracket_piece
-pipe_piece z at is =
-    cond_both (is_special z.options (slice_index z.text at)) (special_found z at) (Ready (Left 1)) (λ (f : TokenStart). f ≡ Ready (Left 1))
-    (λ marked. rw is refl) (λ plain. refl)
+pipe_piece z at is = grind (arith, cond_both)
 
 -- plain text at a place: its byte is not special, or it is a pipe at which the content does not end
 abbrev pub IsPlain : Inline → ℕ → Type 0
@@ -70,21 +68,14 @@ IsPlain z k = (is_special z.options (slice_index z.text k) ≡ false) ⊎ ((cont
 -- plain text is a piece by itself, and no content ends there
 single_piece : (z : Inline) (at : ℕ) → at < length z.text → IsPlain z at → (content_ends_at z at ≡ false) × (found_at z at ≡ Ready (Left 1))
 unfolding content_ends_at found_at is_special
-single_piece z at within (inl plain) =
-    let b = slice_index z.text at in
-    let line = or_from _ _ (off b line_feed z.options refl plain) (off b carriage_return z.options refl plain) in
-    let cell = and_right z.row _ (or_parts (begins_cell z.options b) _ (or_parts (begins_token b) _ plain).1).0 in
-    (or_from _ _ (lt-leb (length z.text) at within) (or_from _ _ line cell), cond-false _ _ _ plain)
+single_piece z at within (inl plain) = (grind (arith, nat_tests, within, plain), cond-false _ _ _ plain)
 single_piece z at within (inr is) = (is.0, pipe_piece z at is.1)
 
 -- the pipes of a run are plain text, if the content does not end at the first
 pub plain_run : (z : Inline) (at to : ℕ) → content_ends_at z at ≡ false → slice_index z.text at ≡ pipe → to ≡ at + run_at z.text at → to ≤ length z.text
     → (k : ℕ) → at ≤ k → k < to → IsPlain z k
 unfolding content_ends_at
-plain_run z at to on is to_is within k low high =
-    let same = run_same z.text at k low (omega (arith, to_is)) in
-    let byte = ap (λ (b : ℕ). is_line_end b || ends_cell z b) same ∙ (or_parts (nat_le (length z.text) at) _ on).1 in
-    inr (or_from _ _ (lt-leb (length z.text) k (omega arith)) byte, same ∙ is)
+plain_run z at to on is to_is within k low high = grind (arith, run_same, or_parts, or_from, lt-leb)
 
 -- the piece found at a special byte
 pub found_special : (z : Inline) (at : ℕ) → is_special z.options (slice_index z.text at) ≡ true → special_found z at ≡ found_at z at
@@ -97,13 +88,7 @@ held_start text start = record { from = omega arith; upto = omega arith; mark = 
 
 so_far_start : {texts : List CowStr} (z : Inline)
     → z.start ≤ length z.text → SoFar texts z [] (record { begin = z.start; escaped = false }) z.start z.braces
-so_far_start z within = record {
-  pieces = [];
-  divided = refl;
-  within = within;
-  held = held_start z.text z.start;
-  shown = λ stop h. sym (add_text-none z.start (min z.start stop) false [] (omega arith));
-}
+so_far_start z within = grind (arith, held_start, add_text-none)
 
 -- a text grows by the bytes after it
 add_text_grows : (begin at n stop : ℕ) (escaped : Bool) (chain : List Item) → begin ≤ at → (begin < at) ⊎ (escaped ≡ false) → begin ≤ stop
@@ -114,12 +99,10 @@ add_text_grows begin at n stop escaped chain upto mark ahead =
           let here : min at stop ≡ at = omega arith in
           rw here (elim (cases_lt begin at) [
             | inl longer ↦ add_text-joined begin at (min (at + n) stop) escaped chain longer (omega arith)
-            | inr empty ↦ elim mark [
-              | inl longer ↦ absurd (omega arith)
-              | inr plain ↦
-                  let same : at ≡ begin = omega arith in
-                  rw (add_text-none begin at escaped chain empty, same, plain) refl
-            ]
+            | inr empty ↦
+                let plain : escaped ≡ false = elim mark [ inl longer ↦ absurd (omega arith) | inr none ↦ none ] in
+                let same : at ≡ begin = omega arith in
+                rw (add_text-none begin at escaped chain empty, same, plain) refl
           ])
       | inr past ↦
           let none : min (at + n) stop ≤ at = omega arith in
@@ -135,33 +118,15 @@ begins_on text start begin at to order (inr (positive, solid, inr other)) = inr 
 -- after a token an empty text is pending
 held_none : (text : List ℕ) (start begin at : ℕ) → start < begin → begin ≤ at → IsMark (slice_index text (begin - 1))
     → IsHeld text start (record { begin = begin; escaped = false }) at
-held_none text start begin at low high last =
-    let facts = mark_facts _ last in
-    record { from = omega arith; upto = high; mark = inr refl; begins = inr (omega arith, facts.solid, inr facts.no_backslash) }
+held_none text start begin at low high last = grind (arith, mark_facts)
 
 -- the pending text after one more piece
 pub held_piece : (text : List ℕ) (start at : ℕ) (q : Piece) (p : HeldText) → IsPieceAt text at q → IsHeld text start p at
     → IsHeld text start (held_after at q p) (at + size q)
-held_piece text start at (Left n) p facts h = record {
-  from = h.from;
-  upto = omega (arith, h.upto);
-  mark = elim h.mark [ inl longer ↦ inl (omega arith) | inr plain ↦ inr plain ];
-  begins = begins_on text start p.begin at (at + n) (omega arith) h.begins;
-}
-held_piece text start at (Begins dropped escaped) p facts h =
-    let last = facts.backslashes (at + dropped - 1) (omega (arith, facts.some)) (omega (arith, facts.some)) in
-    record {
-      from = omega (arith, h.from, h.upto);
-      upto = omega arith;
-      mark = inl (omega arith);
-      begins = inr (omega (arith, facts.some), ap is_white last, inl (omega arith));
-    }
-held_piece text start at (Token dropped n body) p facts h =
-    held_none text start (at + dropped + n) (at + (dropped + n)) (omega (arith, h.from, h.upto, facts.some)) (omega arith)
-    (facts.marks (at + dropped + n - 1) (omega (arith, facts.some)) (omega (arith, facts.some)))
-held_piece text start at (Run n opens closes) p facts h =
-    held_none text start (at + n) (at + n) (omega (arith, h.from, h.upto, facts.some)) (omega arith)
-    (facts.marks (at + n - 1) (omega (arith, facts.some)) (omega (arith, facts.some)))
+held_piece text start at (Left n) p facts h = grind (arith, begins_on)
+held_piece text start at (Begins dropped escaped) p facts h = grind arith
+held_piece text start at (Token dropped n body) p facts h = grind (arith, held_none)
+held_piece text start at (Run n opens closes) p facts h = grind (arith, held_none)
 
 held_later : (at : ℕ) (q : Piece) (p : HeldText) → p.begin ≤ at → p.begin ≤ (held_after at q p).begin
 held_later at (Left n) p upto = omega arith
@@ -174,12 +139,8 @@ pub shown_piece : (text : List ℕ) (start stop at : ℕ) (q : Piece) (p : HeldT
     ≡ add_text (held_after at q p).begin (min (at + size q) stop) (held_after at q p).escaped (chain_after at q p chain)
 shown_piece text start stop at (Left n) p chain h ahead = add_text_grows p.begin at n stop p.escaped chain h.upto h.mark ahead
 shown_piece text start stop at (Begins dropped escaped) p chain h ahead = (let here : min at stop ≡ at = omega arith in rw here refl)
-shown_piece text start stop at (Token dropped n body) p chain h ahead =
-    let here : min at stop ≡ at = omega arith in
-    rw here (sym (add_text-none (at + dropped + n) (min (at + (dropped + n)) stop) false _ (omega arith)))
-shown_piece text start stop at (Run n opens closes) p chain h ahead =
-    let here : min at stop ≡ at = omega arith in
-    rw here (sym (add_text-none (at + n) (min (at + n) stop) false _ (omega arith)))
+shown_piece text start stop at (Token dropped n body) p chain h ahead = grind (arith, add_text-none)
+shown_piece text start stop at (Run n opens closes) p chain h ahead = grind (arith, add_text-none)
 
 -- one more piece
 so_far_piece : {texts : List CowStr} (z : Inline) (chain : List Item) (pending : HeldText) (at : ℕ) (b : MathBraces) → SoFar texts z chain pending at b
@@ -200,28 +161,16 @@ so_far_piece {texts} z chain pending at b s on found there p makes =
           ∙ ap (add_piece stop at p) (s.shown stop (omega arith)) ∙ shown_piece z.text z.start stop at p pending chain s.held ahead;
     }
 
--- n bytes that are pieces of one byte
-so_far_bytes : {texts : List CowStr} (z : Inline) (chain : List Item) (pending : HeldText) (n at : ℕ) (b : MathBraces)
-    → SoFar texts z chain pending at b → at + n ≤ length z.text
-    → ((k : ℕ) → at ≤ k → k < at + n → (content_ends_at z k ≡ false) × (found_at z k ≡ Ready (Left 1))) → SoFar texts z chain pending (at + n) b
-so_far_bytes {texts} z chain pending zero at b s fits single =
-    let here : at ≡ at + 0 = omega arith in
+-- up to a place n bytes later, with only plain text before it
+so_far_upto : {texts : List CowStr} (z : Inline) (chain : List Item) (pending : HeldText) (n at to : ℕ) (b : MathBraces) → to ≡ at + n
+    → SoFar texts z chain pending at b → to ≤ length z.text → ((k : ℕ) → at ≤ k → k < to → IsPlain z k) → SoFar texts z chain pending to b
+so_far_upto {texts} z chain pending zero at to b there s within plain =
+    let here : at ≡ to = omega arith in
     subst (λ (k : ℕ). SoFar texts z chain pending k b) here s
-so_far_bytes {texts} z chain pending (suc n) at b s fits single =
-    let first = single at (omega arith) (omega arith) in
+so_far_upto {texts} z chain pending (suc n) at to b there s within plain =
+    let first = single_piece z at (omega arith) (plain at (omega arith) (omega arith)) in
     let more : SoFar texts z chain pending (at + 1) b = so_far_piece z chain pending at b s first.0 (Ready (Left 1)) first.1 (Left 1) refl in
-    let rest = so_far_bytes z chain pending n (at + 1) b more (omega arith) (λ k low high. single k (omega arith) (omega arith)) in
-    let here : at + 1 + n ≡ at + suc n = omega arith in
-    subst (λ (k : ℕ). SoFar texts z chain pending k b) here rest
-
--- up to a place with only plain text before it
-so_far_upto : {texts : List CowStr} (z : Inline) (chain : List Item) (pending : HeldText) (at to : ℕ) (b : MathBraces)
-    → SoFar texts z chain pending at b → at ≤ to
-    → to ≤ length z.text → ((k : ℕ) → at ≤ k → k < to → IsPlain z k) → SoFar texts z chain pending to b
-so_far_upto {texts} z chain pending at to b s order within plain =
-    let there : at + (to - at) ≡ to = omega arith in
-    subst (λ (k : ℕ). SoFar texts z chain pending k b) there
-    (so_far_bytes z chain pending (to - at) at b s (omega arith) (λ k low high. single_piece z k (omega arith) (plain k low (omega arith))))
+    so_far_upto z chain pending n (at + 1) to b (omega arith) more within (λ k low high. plain k (omega arith) high)
 
 -- the last text of a content ends in it
 text_end_within : (z : Inline) (end : ℕ) → text_end z end ≤ end
@@ -235,12 +184,7 @@ pub record IsTextEnd (z : Inline) (end stop : ℕ) : Type 0 where
 
 pub cell_text_end : (z : Inline) (end : ℕ) → end ≤ length z.text → IsTextEnd z end (end - blanks_at_end z end)
 unfolding blanks_at_end
-cell_text_end z end within = record {
-  short = omega arith;
-  following = λ begin low high begins.
-      let bound = end_bounded is_white z.text z.start begin end low high within (elim begins [ inl same ↦ inl same | inr at ↦ inr (at.0, at.1) ]) in
-      omega arith;
-}
+cell_text_end z end within = grind (arith, end_bounded)
 
 pub line_text_end : (z : Inline) (end : ℕ) → end ≤ length z.text → IsTextEnd z end (text_end z end)
 unfolding text_end backslashes_at_end
@@ -270,7 +214,7 @@ pub read_upto : {texts : List CowStr} {z : Inline} {old tree : Forest Item} {pen
     → IsRead texts z old tree pending (spot at b)
     → at ≤ to → to ≤ length z.text → ((k : ℕ) → at ≤ k → k < to → IsPlain z k) → IsRead texts z old tree pending (spot to b)
 read_upto {texts} {z} {old} {tree} {pending} at to b r order within plain =
-    record { tokens = r.tokens; read = so_far_upto z r.tokens pending at to b r.read order within plain; tree_is = r.tree_is }
+    record { tokens = r.tokens; read = so_far_upto z r.tokens pending (to - at) at to b (omega arith) r.read within plain; tree_is = r.tree_is }
 
 -- the same, while more texts are named
 pub read_more : {new old : List CowStr} {z : Inline} {before tree : Forest Item} {pending : HeldText} {to : Spot}
@@ -278,15 +222,10 @@ pub read_more : {new old : List CowStr} {z : Inline} {before tree : Forest Item}
     → IsRead new z before tree pending to
 read_more {new} {old} {z} {before} {tree} {pending} {to} more r =
     let s = r.read in
+    let divided = pieces_more new old z z.start z.braces s.pieces (spot to.at to.braces) more s.divided in
     record {
       tokens = r.tokens;
-      read = record {
-        pieces = s.pieces;
-        divided = pieces_more new old z z.start z.braces s.pieces (spot to.at to.braces) more s.divided;
-        within = s.within;
-        held = s.held;
-        shown = s.shown;
-      };
+      read = record { pieces = s.pieces; divided = divided; within = s.within; held = s.held; shown = s.shown };
       tree_is = r.tree_is;
     }
 
@@ -295,14 +234,8 @@ tree_is_after : (text : List ℕ) (old : Forest Item) (chain : List Item) (pendi
     → pending.begin ≤ at → with_tokens old (chain_after at p pending chain) ≡ tree_after at p pending (with_tokens old chain)
 tree_is_after text old chain pending at (Left n) facts order = refl
 tree_is_after text old chain pending at (Begins dropped escaped) facts order = with_tokens-text old chain pending.begin at pending.escaped order
-tree_is_after text old chain pending at (Token dropped n body) facts order =
-    let x = token (at + dropped) n body in
-    let more = add_text pending.begin at pending.escaped chain in
-    with_tokens-add old more x ∙ with_token-plain (with_tokens old more) x (markup_plain body facts.kind)
-    ∙ ap (λ (f : Forest Item). appended f x) (with_tokens-text old chain pending.begin at pending.escaped order)
-tree_is_after text old chain pending at (Run n opens closes) facts order =
-    with_tokens-adds old (add_text pending.begin at pending.escaped chain) (run_tokens at n opens closes)
-    ∙ ap (λ (f : Forest Item). with_tokens f (run_tokens at n opens closes)) (with_tokens-text old chain pending.begin at pending.escaped order)
+tree_is_after text old chain pending at (Token dropped n body) facts order = grind (arith, with_tokens-add, with_token-plain, markup_plain, with_tokens-text)
+tree_is_after text old chain pending at (Run n opens closes) facts order = grind (arith, with_tokens-adds, with_tokens-text)
 
 module _ {texts : List CowStr} {z : Inline} {at : ℕ} {found : TokenStart} (on : content_ends_at z at ≡ false) (there : found_at z at ≡ found) where
   pub read_piece : {old tree : Forest Item} {pending : HeldText} {b : MathBraces} (p : Piece) → MakesPiece texts b found p
@@ -318,20 +251,9 @@ module _ {texts : List CowStr} {z : Inline} {at : ℕ} {found : TokenStart} (on 
 -- the whole content
 pub read_all : {texts : List CowStr} (z : Inline) (old tree : Forest Item) (pending : HeldText) (to : Spot) → IsRead texts z old tree pending to
     → content_ends_at z to.at ≡ true → IsHeldTo texts z old tree to pending
-read_all z old tree pending to r ended =
-    let s = r.read in
-    let end = to.at in
-    record {
-      pieces = s.pieces;
-      division = record { divided = s.divided; ended = ended };
-      before_break = (line_text_end z end s.within).following pending.begin s.held.from s.held.upto s.held.begins;
-      before_white = (cell_text_end z end s.within).following pending.begin s.held.from s.held.upto s.held.begins;
-      appended = λ stop ahead inside.
-          let here : min end stop ≡ stop = omega arith in
-          rw (r.tree_is, s.shown stop ahead, here) (sym (with_tokens-text old r.tokens pending.begin stop pending.escaped ahead));
-    }
+read_all z old tree pending to r ended = grind (arith, line_text_end, cell_text_end, with_tokens-text)
 
--- The result at the end of a line: the pending text is appended, and the answer is the next line and the break.
+-- At the end of a line the pending text is appended, and the call returns the offset of the next line and the break.
 pub record IsLineEnd (z : Inline) (tree new : Forest Item) (pending : HeldText) (end : ℕ) (r : Result (ℕ × Option Item) AllocError) : Type 0 where
   pub tree_is : OnOk r ((b : MathBraces) → new ≡ with_text tree pending.begin (text_end (record z { braces = b }) end) pending.escaped)
   pub answer_is : IfOk r (λ a. (b : MathBraces) → a ≡ (end + line_end_len (record z { braces = b }) end, line_break (record z { braces = b }) end))
@@ -359,11 +281,7 @@ read_ended z old tree new pending end after (Err e) plain read ended = tt
 pub read_cell : {texts : List CowStr} (z : Inline) (old tree new : Forest Item) (pending : HeldText) (end : ℕ) (after : MathBraces)
     → IsHeldTo texts z old tree (spot end after) pending → new ≡ with_text tree pending.begin (end - blanks_at_end z end) pending.escaped
     → AppendsCell texts z old new end after
-read_cell z old tree new pending end after r new_is = record {
-  tokens = add_pieces (end - blanks_at_end z end) z.start r.pieces [];
-  cell = record { pieces = r.pieces; division = r.division; tokens_are = refl };
-  tree_is = new_is ∙ r.appended (end - blanks_at_end z end) r.before_white (omega arith);
-}
+read_cell z old tree new pending end after r new_is = grind arith
 
 -- a cell that is plain text up to its end: that text is its only token
 pub cell_plain : {texts : List CowStr} (z : Inline) (end : ℕ) → z.start ≤ end → end ≤ length z.text → ((k : ℕ) → z.start ≤ k → k < end → IsPlain z k)
@@ -371,7 +289,7 @@ pub cell_plain : {texts : List CowStr} (z : Inline) (end : ℕ) → z.start ≤ 
 cell_plain {texts} z end order within plain ended =
     let stop = end - blanks_at_end z end in
     let begun : SoFar texts z [] (record { begin = z.start; escaped = false }) z.start z.braces = so_far_start z (omega arith) in
-    let s = so_far_upto z [] (record { begin = z.start; escaped = false }) z.start end z.braces begun order within plain in
+    let s = so_far_upto z [] (record { begin = z.start; escaped = false }) (end - z.start) z.start end z.braces (omega arith) begun within plain in
     let ahead : z.start ≤ stop = (cell_text_end z end within).following z.start s.held.from s.held.upto s.held.begins in
     let here : min end stop ≡ stop = omega arith in
     record {

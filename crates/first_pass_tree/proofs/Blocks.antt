@@ -9,9 +9,7 @@ at_depth-append d (x ∷ xs) ys = ap (λ z. (d + x.0, x.1) ∷ z) (at_depth-appe
 
 pub at_depth-at_depth : {T : Type 0} (d e : ℕ) (xs : List (ℕ × T)) → at_depth d (at_depth e xs) ≡ at_depth (d + e) xs
 at_depth-at_depth d e [] = refl
-at_depth-at_depth {T = T} d e (x ∷ xs) =
-    let h : d + (e + x.0) ≡ d + e + x.0 = omega arith in
-    ap (λ k. (k, x.1) ∷ at_depth d (at_depth e xs)) h ∙ ap (λ (z : List (ℕ × T)). (d + e + x.0, x.1) ∷ z) (at_depth-at_depth d e xs)
+at_depth-at_depth {T = T} d e (x ∷ xs) = grind (arith, at_depth-at_depth d e xs)
 
 modify-here : {T : Type 0} (xs ys : List (ℕ × T)) (n : ℕ × T) (g : T → T) → modify (xs ++ n ∷ ys) (length xs) g ≡ xs ++ (n.0, g n.1) ∷ ys
 modify-here [] ys n g = refl
@@ -22,8 +20,7 @@ pub modify-at : {T : Type 0} (xs ys : List (ℕ × T)) (n : ℕ × T) (i : ℕ) 
 modify-at xs ys n i g e = ap (λ k. modify (xs ++ n ∷ ys) k g) e ∙ modify-here xs ys n g
 
 pub forest-eq : {T : Type 0} (f g : Forest T) → f.nodes ≡ g.nodes → f.spine ≡ g.spine → f.current ≡ g.current → f ≡ g
-forest-eq f g a b c =
-    ap (λ ns. record f { nodes = ns }) a ∙ ap (λ s. record f { nodes = g.nodes; spine = s }) b ∙ ap (λ k. record g { current = k }) c
+forest-eq f g a b c = grind arith
 
 abbrev at_place : ℕ → TreeIndex
 at_place m = record { 0 = m }

@@ -1,12 +1,9 @@
 -- Facts about a tree that a caller keeps over several calls.
-use Rattle.std.proofs.Common.{◌≡◌, ℕ, ◌+◌, ◌<◌, List, ◌∷◌, ◌++◌, length, Some, get_or, sym, ◌∙◌, ap, subst, [], arith, append_assoc, length-append}
+use Rattle.std.proofs.Common.{◌≡◌, ℕ, ◌+◌, ◌<◌, List, ◌∷◌, ◌++◌, length, get_or, sym, ◌∙◌, ap, subst, [], arith, append_assoc, length-append}
 use Rattle.std.proofs.lemmas.List.{length-map, map-append, get_or_append_left}
 use Rattle.first_pass_tree.specs.declared.tree_index.TreeIndex.{TreeIndex}
 use Rattle.first_pass_tree.specs.Forest.{Forest, IsChild, depths, open_place, appended, added, at_depth}
 use Rattle.first_pass_tree.proofs.Blocks.{at_depth-append}
-
-abbrev last_place : {T : Type 0} → Forest T → TreeIndex
-last_place f = record { 0 = length f.nodes }
 
 -- a child is still a child after nodes are added to the end of the list
 pub child-kept : {T : Type 0} (f g : Forest T) (more : List (ℕ × T)) (ix : TreeIndex)
@@ -36,8 +33,6 @@ more-added {T = T} f g h kids block n s e =
 
 -- adding an item is adding a block that has only this item
 pub appended-block : {T : Type 0} (f : Forest T) (x : T) → appended f x ≡ added f ((0, x) ∷ [])
-appended-block f x =
-    let z : length f.spine + 1 ≡ length f.spine + 1 + 0 = omega arith in
-    ap (λ k. record f { nodes = f.nodes ++ (k, x) ∷ []; current = Some (last_place f) }) z
+appended-block f x = grind arith
 
 -- a text after a text that ends at its start is joined to it

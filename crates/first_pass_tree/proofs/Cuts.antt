@@ -122,9 +122,7 @@ single-uncut e d (n ∷ []) t l = grind (arith, nat_tests)
 single-uncut e d (n ∷ m ∷ ns) t l = absurd cc
 
 last_before-here : (ds : List ℕ) (d k n : ℕ) → n ≡ suc k → get_or ds k 0 ≡ d → last_before ds d n ≡ k
-last_before-here ds d k n e h =
-    let t : (get_or ds k 0 == d) ≡ true = grind (arith, nat_tests) in
-    ap (last_before ds d) e ∙ rw t refl
+last_before-here ds d k n e h = grind (arith, nat_tests)
 
 -- such a cut makes the token current, and changes no node
 pub cut_siblings-single : (f : Forest Item) (e p : ℕ) → IsForest f → p ≡ open_place f.spine + 1 → is_single_before e (drop p f.nodes) ≡ true

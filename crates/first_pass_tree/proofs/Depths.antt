@@ -1,6 +1,6 @@
 -- Lists of depths: the last index of a depth, and open paths, after an edit.
-use Rattle.std.proofs.Common.{◌≡◌, ℕ, ◌+◌, ◌-◌, ◌<◌, ◌≤◌, suc, zero, List, [], ◌∷◌, ◌++◌, length, get_or, take, drop, nat_lt, true, false, refl, sym, ap}
-use Rattle.std.proofs.Common.{◌∙◌, arith, add-one, ⊎_elim, get_or-take, get_or-drop, length-take-le, length-drop}
+use Rattle.std.proofs.Common.{◌≡◌, ℕ, ◌+◌, ◌-◌, ◌<◌, ◌≤◌, suc, zero, List, [], ◌∷◌, ◌++◌, length, get_or, take, drop, nat_lt, true, false, sym, ap}
+use Rattle.std.proofs.Common.{◌∙◌, arith, get_or-take, get_or-drop, length-take-le, length-drop}
 use Rattle.std.proofs.lemmas.Bool.{cases_lt}
 use Rattle.std.proofs.lemmas.Bool.Decides.{nat_tests}
 use Rattle.std.proofs.lemmas.List.{places, get_or_append_left, get_or_push, length_push}
@@ -27,12 +27,7 @@ pub record IsEdit (ds es : List ℕ) (p d : ℕ) : Type 0 where
 
 -- the last index of a depth before such an edit is still the last
 pub last-edit : (ds es : List ℕ) (p d c i : ℕ) → IsEdit ds es p d → i < p → c ≤ d → IsLastAt ds c i → IsLastAt es c i
-last-edit ds es p d c i e l m h = record {
-  within = omega (arith, e.there);
-  depth = e.before i l ∙ h.depth;
-  following = λ k a b.
-      ⊎_elim (λ x. rw (e.before k x) (h.following k a (omega (arith, e.within)))) (λ x. let y = e.following k x b in omega arith) (cases_lt k p);
-}
+last-edit ds es p d c i e l m h = grind (arith, cases_lt)
 
 pub path-edit : (ds es : List ℕ) (is : List TreeIndex) (p d : ℕ) → IsEdit ds es p d → open_place is < p → length is ≤ d → IsOpenPath ds is → IsOpenPath es is
 path-edit ds es [] p d e l m h = last-edit ds es p d 0 0 e l (omega arith) h
@@ -41,12 +36,7 @@ path-edit ds es (i ∷ is) p d e l m h =
     (last-edit ds es p d _ i.0 e l (omega arith) h.0, path-edit ds es is p d e (omega arith) (omega arith) h.1)
 
 pub append-edit : (ds : List ℕ) (d e : ℕ) → d < e → IsEdit ds (ds ++ e ∷ []) (length ds) d
-append-edit ds d e l = record {
-  within = omega arith;
-  there = omega (arith, length_push ds e);
-  before = λ k a. get_or_append_left ds (e ∷ []) 0 k a;
-  following = λ k a b. grind (arith, places, length_push, get_or_push);
-}
+append-edit ds d e l = grind (arith, length_push, get_or_append_left, places, get_or_push)
 
 pub take-edit : (ds : List ℕ) (n d : ℕ) → n ≤ length ds → IsEdit ds (take n ds) n d
 take-edit ds n d m = record {
@@ -57,11 +47,7 @@ take-edit ds n d m = record {
 }
 
 pub last-push : (ds : List ℕ) (e : ℕ) → IsLastAt (ds ++ e ∷ []) e (length ds)
-last-push ds e = record {
-  within = omega (arith, length_push ds e);
-  depth = get_or_push ds e 0 (length ds) refl;
-  following = λ k p q. absurd (omega (arith, length_push ds e));
-}
+last-push ds e = grind (arith, length_push, get_or_push)
 
 -- the last node is at least as deep as the innermost open node
 pub path-last_depth : (ds : List ℕ) (is : List TreeIndex) → IsOpenPath ds is → (0 < length ds) × (length is ≤ get_or ds (length ds - 1) 0)
@@ -77,10 +63,7 @@ preorder-take ds n m h = λ k q. grind (arith, places, length-take-le n ds m, ge
 -- the depth at an index is at most the index
 pub depth-small : (ds : List ℕ) → IsPreorder ds → get_or ds 0 0 ≡ 0 → (k : ℕ) → k < length ds → get_or ds k 0 ≤ k
 depth-small ds h z zero l = omega arith
-depth-small ds h z (suc k) l =
-    let r = depth-small ds h z k (omega arith) in
-    let s = h k (omega arith) in
-    grind (arith, add-one)
+depth-small ds h z (suc k) l = grind (arith, depth-small ds h z k (omega arith))
 
 -- the nodes after a node, up to the end of its descendants, are deeper
 pub before-end : (ds : List ℕ) (i k : ℕ) → i < k → k < end_of ds i → get_or ds i 0 < get_or ds k 0

@@ -1,11 +1,9 @@
 -- Each change of a forest results in a forest.
-use Rattle.std.proofs.Common.{◌≡◌, ℕ, ◌+◌, ◌-◌, ◌<◌, ◌≤◌, ◌^◌, suc, zero, List, ◌∷◌, ◌++◌, length, get_or, set, take, drop, map, Some, None, true, false}
-use Rattle.std.proofs.Common.{[], Bool, ◌&&◌, if◌then◌else◌, nat_lt, eqb, ◌≢◌, ◌⊎◌, reverse, slice_get, IfSome, Option, refl, sym, ◌∙◌, ap, subst, ⊎_elim}
-use Rattle.std.proofs.Common.{arith, add-one, length-append, get_or-drop, get_or-take, length-take-le, length-drop, get_or-set_other, length-set, insert}
-use Rattle.std.proofs.Common.{option_map}
-use Rattle.std.proofs.lemmas.List.{length-reverse, get_or-reverse, map-append, length-map, take-map, get_or-map, take_more}
-use Rattle.std.proofs.lemmas.List.{reverse-append}
-use Rattle.std.proofs.lemmas.List.{get_or_at, map-set}
+use Rattle.std.proofs.Common.{◌≡◌, ℕ, ◌+◌, ◌-◌, ◌<◌, ◌≤◌, ◌^◌, suc, zero, List, ◌∷◌, ◌++◌, length, get_or, set, take, drop, map, Some, None, true, false, []}
+use Rattle.std.proofs.Common.{Bool, ◌&&◌, if◌then◌else◌, nat_lt, eqb, ◌≢◌, ◌⊎◌, reverse, slice_get, IfSome, Option, refl, sym, ◌∙◌, ap, subst, ⊎_elim, arith}
+use Rattle.std.proofs.Common.{add-one, length-append, get_or-drop, get_or-take, length-take-le, length-drop, get_or-set_other, length-set, insert, option_map}
+use Rattle.std.proofs.lemmas.List.{length-reverse, get_or-reverse, map-append, length-map, take-map, get_or-map, take_more, reverse-append, get_or_at}
+use Rattle.std.proofs.lemmas.List.{map-set}
 use Rattle.std.proofs.lemmas.Option.{slice_get-get_or}
 use Rattle.std.proofs.lemmas.List.Sums.{prefix_len-drop_yes, prefix_len-drop_no, prefix_len-drop_all, prefix_len-le-length, prefix_len_is}
 use Rattle.std.proofs.lemmas.Bool.Decides.{nat_tests}
@@ -15,9 +13,9 @@ use Rattle.first_pass_items.specs.declared.item.AlignmentIndex.{AlignmentIndex}
 use Rattle.first_pass_items.specs.declared.item.Item.{Item}
 use Rattle.first_pass_items.specs.declared.item.ItemBody.{ItemBody}
 use Rattle.first_pass_items.specs.declared.item.ItemBody.TheVariants.{Table, TableHead, TableRow, TableCell}
-use Rattle.first_pass_tree.specs.Forest.{Forest, IsForest, IsLastAt, IsOpenPath, IsPreorder, depths, item_at, modify, run_end, end_of, sibling_of}
-use Rattle.first_pass_tree.specs.Forest.{in_table, in_table_by, appended, popped, cut_to, kept_after, childless, wrapped, map_from, deeper, IsShallow}
-use Rattle.first_pass_tree.specs.Forest.{open_place, IsChild}
+use Rattle.first_pass_tree.specs.Forest.{Forest, IsForest, IsLastAt, IsOpenPath, IsPreorder, depths, item_at, modify, run_end, end_of, sibling_of, in_table}
+use Rattle.first_pass_tree.specs.Forest.{in_table_by, appended, popped, cut_to, kept_after, childless, wrapped, map_from, deeper, IsShallow, open_place}
+use Rattle.first_pass_tree.specs.Forest.{IsChild}
 use Rattle.first_pass_tree.proofs.Depths.{IsEdit, last-edit, path-edit, append-edit, take-edit, last-push, path-last_depth, preorder-append, preorder-take}
 use Rattle.first_pass_tree.proofs.Depths.{open-last, last-order, depth-small, before-end}
 
@@ -70,12 +68,7 @@ depths-modify (m ∷ ns) (suc i) g = ap (λ k. m.0 ∷ k) (depths-modify ns i g)
 
 -- only the depths matter
 pub same_depths-is : {T : Type 0} (f : Forest T) (ns : List (ℕ × T)) → depths ns ≡ depths f.nodes → IsForest f → IsForest (record f { nodes = ns })
-same_depths-is f ns e h =
-    record {
-      preorder = subst IsPreorder (sym e) h.preorder;
-      opened = subst (λ (v : List ℕ). IsOpenPath v f.spine) (sym e) h.opened;
-      at_current = subst (λ (v : List ℕ). IfSome f.current (λ c. IsLastAt v (length f.spine + 1) c.0)) (sym e) h.at_current;
-    }
+same_depths-is f ns e h = grind arith
 
 pub modified-is : {T : Type 0} (f : Forest T) (i : ℕ) (g : T → T) → IsForest f → IsForest (record f { nodes = modify f.nodes i g })
 modified-is f i g h = same_depths-is f (modify f.nodes i g) (depths-modify f.nodes i g) h
@@ -111,8 +104,7 @@ closed-is f c rest e h =
 -- the result of a write to one item
 pub modified-by : {T : Type 0} (f now : Forest T) (i : ℕ) (n : ℕ × T) (g : T → T)
     → f ≡ now → n ≡ get_or f.nodes i n → record f { nodes = set f.nodes i (n.0, g n.1) } ≡ record now { nodes = modify now.nodes i g }
-modified-by {T = T} f now i n g e q =
-    ap (λ (ns : List (ℕ × T)). record f { nodes = ns }) (modify-set f.nodes i n g q) ∙ ap (λ (v : Forest T). record v { nodes = modify v.nodes i g }) e
+modified-by {T = T} f now i n g e q = grind (arith, modify-set)
 
 -- the root exists
 pub root-within : {T : Type 0} (f : Forest T) → IsForest f → 0 < length f.nodes
@@ -129,35 +121,18 @@ depth_read ns i d l = get_or-map (λ n. n.0) ns i d 0 l
 -- a run of deeper nodes: one more node, and its end
 pub run_more : {T : Type 0} (ns : List (ℕ × T)) (depth i : ℕ) (d : ℕ × T)
     → i < length ns → depth < (get_or ns i d).0 → run_end (depths ns) depth (i + 1) ≡ run_end (depths ns) depth i
-run_more ns depth i d l h =
-    let m = length-map ns (λ n. n.0) in
-    let r = depth_read ns i d l in
-    let t : nat_lt depth (get_or (depths ns) i 0) ≡ true = grind (arith, nat_tests) in
-    let e = prefix_len-drop_yes (λ d. nat_lt depth d) (depths ns) i 0 (omega arith) t in omega arith
+run_more ns depth i d l h = grind (arith, length-map, depth_read, nat_tests, prefix_len-drop_yes)
 
 pub run_stop : {T : Type 0} (ns : List (ℕ × T)) (depth i : ℕ) (d : ℕ × T) → i < length ns → (get_or ns i d).0 ≤ depth → run_end (depths ns) depth i ≡ i
-run_stop ns depth i d l h =
-    let m = length-map ns (λ n. n.0) in
-    let r = depth_read ns i d l in
-    let t : nat_lt depth (get_or (depths ns) i 0) ≡ false = grind (arith, nat_tests) in
-    let e = prefix_len-drop_no (λ d. nat_lt depth d) (depths ns) i 0 (omega arith) t in omega arith
+run_stop ns depth i d l h = grind (arith, length-map, depth_read, nat_tests, prefix_len-drop_no)
 
 pub run_all : {T : Type 0} (ns : List (ℕ × T)) (depth i : ℕ) → length ns ≤ i → run_end (depths ns) depth i ≡ i
-run_all ns depth i l =
-    let m = length-map ns (λ n. n.0) in
-    let e = prefix_len-drop_all (λ d. nat_lt depth d) (depths ns) i (omega arith) in omega arith
+run_all ns depth i l = grind (arith, length-map, prefix_len-drop_all)
 
 -- the next sibling, as the code tests it
 pub sibling-some : {T : Type 0} (ns : List (ℕ × T)) (i e : ℕ) (d : ℕ × T) → i < length ns → e ≡ run_end (depths ns) (get_or ns i d).0 (i + 1) → e < length ns
     → (get_or ns e d).0 ≡ (get_or ns i d).0 → Some (record { 0 = e }) ≡ sibling_of (depths ns) i
-sibling-some ns i e d l r p h =
-    let m = length-map ns (λ n. n.0) in
-    let a = depth_read ns i d l in
-    let b = depth_read ns e d p in
-    let q : e ≡ end_of (depths ns) i = rw a r in
-    let t : nat_lt e (length (depths ns)) ≡ true = grind (arith, nat_tests) in
-    let u : eqb (get_or (depths ns) e 0) (get_or (depths ns) i 0) ≡ true = grind (arith, nat_tests) in
-    rw (← q, t, u)
+sibling-some ns i e d l r p h = grind (arith, length-map, depth_read, nat_tests)
 
 pub sibling-none : {T : Type 0} (ns : List (ℕ × T)) (i e : ℕ) (d : ℕ × T) → i < length ns → e ≡ run_end (depths ns) (get_or ns i d).0 (i + 1)
     → (e < length ns → (get_or ns e d).0 ≢ (get_or ns i d).0) → None ≡ sibling_of (depths ns) i
@@ -386,20 +361,15 @@ root-depth ds [] h = h.depth
 root-depth ds (i ∷ is) h = root-depth ds is h.1
 
 pub shallow : {T : Type 0} (f : Forest T) → IsForest f → length f.nodes < 2 ^ 63 → IsShallow (depths f.nodes)
-shallow f h l = λ k a.
-    let s = depth-small (depths f.nodes) h.preorder (root-depth (depths f.nodes) f.spine h.opened) k a in
-    omega (arith, length-map f.nodes (λ n. n.0))
+shallow f h l = grind (arith, depth-small, root-depth, length-map)
 
 pub current-within : {T : Type 0} (f : Forest T) (c : TreeIndex) → f.current ≡ Some c → IsForest f → c.0 < length f.nodes
-current-within f c q h =
-    let l = subst (λ (o : Option TreeIndex). IfSome o (λ c. IsLastAt (depths f.nodes) (length f.spine + 1) c.0)) q h.at_current in
-    omega (arith, l.within, length-map f.nodes (λ n. n.0))
+current-within f c q h = grind (arith, length-map)
 
 -- the end of the descendants of a node whose depth is known
 pub end-known : {T : Type 0} (ns ms : List (ℕ × T)) (i e d : ℕ) → ms ≡ ns → d ≡ get_or (depths ns) i 0
     → e ≡ run_end (depths ms) d (i + 1) → e ≡ end_of (depths ns) i
-end-known {T = T} ns ms i e d q r h =
-    h ∙ ap (λ (v : List (ℕ × T)). run_end (depths v) d (i + 1)) q ∙ ap (λ k. run_end (depths ns) k (i + 1)) r
+end-known {T = T} ns ms i e d q r h = grind arith
 
 -- the descendants of the last node of a depth end with the list
 last-end : {T : Type 0} (ns : List (ℕ × T)) (d i : ℕ) → IsLastAt (depths ns) d i → end_of (depths ns) i ≡ length ns
@@ -417,9 +387,7 @@ last-end ns d i h =
     omega arith
 
 pub current-end : {T : Type 0} (f : Forest T) (c ix : TreeIndex) → f.current ≡ Some c → c.0 ≡ ix.0 → IsForest f → end_of (depths f.nodes) ix.0 ≡ length f.nodes
-current-end f c ix q e h =
-    let l = subst (λ (o : Option TreeIndex). IfSome o (λ c. IsLastAt (depths f.nodes) (length f.spine + 1) c.0)) q h.at_current in
-    ap (end_of (depths f.nodes)) (sym e) ∙ last-end f.nodes _ c.0 l
+current-end f c ix q e h = grind (arith, last-end)
 
 -- the indices of the open nodes are within the list
 path-within : (ds : List ℕ) (is : List TreeIndex) → IsOpenPath ds is → (k : ℕ) → k < length is → (d : TreeIndex) → (get_or is k d).0 < length ds
@@ -443,7 +411,4 @@ spine-small f xs e h l k a =
 
 pub item-read : {T : Type 0} (f now : Forest T) (ix : TreeIndex) (n : ℕ × T)
     → f ≡ now → ix.0 < length now.nodes → n ≡ get_or f.nodes ix.0 n → item_at now ix ≡ Some n.1
-item-read {T = T} f now ix n e l r =
-    let m = subst (λ (v : Forest T). ix.0 < length v.nodes) (sym e) l in
-    sym (ap (λ (v : Forest T). item_at v ix) e)
-    ∙ ap (λ (o : Option (ℕ × T)). option_map (λ k. k.1) o) (slice_get-get_or f.nodes ix.0 n m ∙ ap (λ (k : ℕ × T). Some k) (sym r))
+item-read {T = T} f now ix n e l r = grind (arith, slice_get-get_or)

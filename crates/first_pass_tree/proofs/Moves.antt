@@ -34,22 +34,12 @@ lower-length ns e = length-map (map_from shallower e ns) (λ n. n.0) ∙ map_fro
 -- every node from the index on is at least two levels deeper
 lower-edit : {T : Type 0} (ns : List (ℕ × T)) (d e : ℕ) → e ≤ length (depths ns)
     → ((k : ℕ) → e ≤ k → k < length (depths ns) → d + 2 ≤ get_or (depths ns) k 0) → IsEdit (depths ns) (depths (map_from shallower e ns)) e d
-lower-edit ns d e m b =
-    let n = lower-length ns e in
-    record {
-      within = m;
-      there = omega arith;
-      before = λ k a. lower-before ns e k a;
-      following = λ k a c. let r = lower-following ns e k a in let s = b k a (omega arith) in omega arith;
-    }
+lower-edit ns d e m b = grind (arith, lower-length, lower-before, lower-following)
 
 preorder-lower : {T : Type 0} (ns : List (ℕ × T)) (e m : ℕ)
     → 0 < e → IsPreorder (depths ns) → (e < length (depths ns) → get_or (depths ns) e 0 ≤ m) → m ≤ get_or (depths ns) (e - 1) 0 + 2
     → ((k : ℕ) → e ≤ k → k < length (depths ns) → 0 < get_or (depths ns) k 0) → IsPreorder (depths (map_from shallower e ns))
-preorder-lower ns e m z h q r b = λ k a.
-    let n = lower-length ns e in
-    grind
-    (arith, lower-before ns e k, lower-before ns e (k + 1), lower-following ns e k, lower-following ns e (k + 1), h k, b k, q, r)
+preorder-lower ns e m z h q r b = grind (arith, lower-length, lower-before, lower-following)
 
 pub record IsLastBefore (ds : List ℕ) (d n r : ℕ) : Type 0 where
   pub within : r < n
@@ -87,11 +77,7 @@ some-and (Some c) h = (c, (refl, h))
 
 -- the node directly before an index, after the last node of a depth, has at least that depth
 before-place : (ds : List ℕ) (d c e : ℕ) → IsLastAt ds d c → c < e → e ≤ length ds → d ≤ get_or ds (e - 1) 0
-before-place ds d c e h l w =
-    ⊎_elim
-    (λ x. let u = ap (λ i. get_or ds i 0) x in omega (arith, h.depth))
-    (λ x. let u = h.following (e - 1) (omega arith) (omega arith) in omega arith)
-    (cases_eq c (e - 1))
+before-place ds d c e h l w = grind (arith, cases_eq)
 
 -- a current node before one index is before each later index
 later : (o : Option TreeIndex) (i e : ℕ) → i ≤ e → IsSomeAnd o (λ c. c.0 < i) → IsSomeAnd o (λ c. c.0 < e)
@@ -134,12 +120,4 @@ moved-by f e d r ns ed en er = cc
 
 -- the siblings after a child of the current node can be moved out
 pub rest-moves : {T : Type 0} (f : Forest T) (ix : TreeIndex) → IsChildOfCurrent f ix → CanMoveFrom f (end_of (depths f.nodes) ix.0)
-rest-moves f ix g =
-    let ds = depths f.nodes in
-    let m = length-map f.nodes (λ n. n.0) in
-    let l : ix.0 < length ds = omega (arith, g.within) in
-    record {
-      within = omega (arith, run-within f.nodes (get_or ds ix.0 0) (ix.0 + 1) (omega (arith, g.within)));
-      depth = λ x. let u = at-end ds ix.0 l (omega arith) in omega (arith, g.depth);
-      current = later f.current ix.0 (end_of ds ix.0) (omega arith) g.current;
-    }
+rest-moves f ix g = grind (arith, length-map, run-within, at-end, later)

@@ -1,10 +1,9 @@
 -- The recorded subtrees, after some are removed and after the depths of the tree change.
 use Rattle.std.proofs.Common.{◌≡◌, ℕ, ◌+◌, ◌<◌, ◌≤◌, ◌==◌, ◌||◌, nat_lt, Bool, true, false, suc, zero, List, [], ◌∷◌, ◌++◌, length, get_or, set, take}
-use Rattle.std.proofs.Common.{reverse, slice_index, if◌then◌else◌, IfSome, Option, Some, None, refl, sym, ◌∙◌, ap, subst, arith, take_all, length-set}
-use Rattle.std.proofs.Common.{length-append, length-take-le, take-take, get_or-take}
+use Rattle.std.proofs.Common.{reverse, if◌then◌else◌, IfSome, Option, Some, None, refl, sym, ◌∙◌, ap, subst, arith, take_all, length-set, length-append}
+use Rattle.std.proofs.Common.{length-take-le, take-take, get_or-take}
 use Rattle.std.proofs.lemmas.Bool.Decides.{nat_tests}
-use Rattle.std.proofs.lemmas.List.{reverse-append, length-reverse, take_more_set, length-map}
-use Rattle.std.proofs.lemmas.List.{take-append-le, take-map}
+use Rattle.std.proofs.lemmas.List.{reverse-append, length-reverse, take_more_set, length-map, take-append-le, take-map}
 use Rattle.first_pass_tree.specs.declared.subtrees.Subtree.{Subtree}
 use Rattle.first_pass_tree.specs.declared.tree_index.TreeIndex.{TreeIndex}
 use Rattle.first_pass_tree.specs.Subtrees.{IsSubtree, AreSubtrees, IsTree, subtree, within_first, ended_last, ended, stands_outside, last_between}
@@ -33,17 +32,12 @@ subtrees-first ds n count es fs e h = subst (AreSubtrees ds count) (sym e) (firs
 -- one step back, in a list whose last element comes first in contracts: it ends after the first nodes
 pub first-fewer : (count left k : ℕ) (xs : List Subtree) (d : Subtree) → left ≡ k + 1 → k < length xs → count < (get_or xs k d).past
     → within_first count (reverse (take left xs)) ≡ within_first count (reverse (take k xs))
-first-fewer count left k xs d e l p =
-    let t : nat_lt count (get_or xs k d).past ≡ true = grind (arith, nat_tests, p) in
-    ap (λ j. within_first count (reverse (take j xs))) e ∙ ap (within_first count) (rev_take xs k d l) ∙ rw t refl
+first-fewer count left k xs d e l p = grind (arith, nat_tests, rev_take)
 
 -- the element ends within them
 pub first-stop : (count left k : ℕ) (xs : List Subtree) (d : Subtree) → left ≡ k + 1 → k < length xs → (get_or xs k d).past ≤ count
     → within_first count (reverse (take left xs)) ≡ reverse (take left xs)
-first-stop count left k xs d e l p =
-    let r = ap (λ j. reverse (take j xs)) e ∙ rev_take xs k d l in
-    let t : nat_lt count (get_or xs k d).past ≡ false = grind (arith, nat_tests, p) in
-    ap (within_first count) r ∙ rw t refl ∙ sym r
+first-stop count left k xs d e l p = grind (arith, rev_take, nat_tests)
 
 ended_last-are : (ds : List ℕ) (place past : ℕ) (es : List Subtree) → IsSubtree ds place past → AreSubtrees ds past es
     → AreSubtrees ds past (ended_last place past es)
@@ -121,19 +115,11 @@ taken-is P from to (e ∷ es) o q h = rw q (by (nat_lt e.place from) (nat_lt to 
 
 -- the last node of a depth, with all nodes after it
 last-subtree : {T : Type 0} (ns : List (ℕ × T)) (d i : ℕ) → IsLastAt (depths ns) d i → IsSubtree (depths ns) i (length ns)
-last-subtree ns d i h =
-    let m = length-map ns (λ n. n.0) in
-    record {
-      following = omega (arith, h.within, m);
-      deeper = λ k a b. subst (λ v. v < slice_index (depths ns) k) (sym h.depth) (h.following k a (omega (arith, m, b)));
-    }
+last-subtree ns d i h = grind (arith, length-map)
 
 -- the current node, with all nodes after it
 pub current-subtree : {T : Type 0} (f : Forest T) (ix : TreeIndex) → f.current ≡ Some ix → IsForest f → IsSubtree (depths f.nodes) ix.0 (length f.nodes)
-current-subtree f ix e h =
-    let d = length f.spine + 1 in
-    let l = subst (λ (o : Option TreeIndex). IfSome o (λ c. IsLastAt (depths f.nodes) d c.0)) e h.at_current in
-    last-subtree f.nodes d ix.0 l
+current-subtree f ix e h = grind (arith, last-subtree)
 
 -- the same without the last nodes
 pub fewer-subtree : (ds : List ℕ) (place past end : ℕ) → place < past → past ≤ end → IsSubtree ds place end → IsSubtree ds place past
@@ -163,9 +149,7 @@ subtrees-front {T = T} ns ms n xs a b e h =
 -- in a tree with the same depths
 pub subtrees-same : {T : Type 0} (ns ms : List (ℕ × T)) (xs : List Subtree) → depths ms ≡ depths ns → AreSubtrees (depths ns) (length ns) xs
     → AreSubtrees (depths ms) (length ms) xs
-subtrees-same ns ms xs e h =
-    let l : length ms ≡ length ns = sym (length-map ms (λ m. m.0)) ∙ ap length e ∙ length-map ns (λ m. m.0) in
-    subst (λ (ds : List ℕ). AreSubtrees ds (length ms) xs) (sym e) (subst (λ (n : ℕ). AreSubtrees (depths ns) n xs) (sym l) h)
+subtrees-same ns ms xs e h = grind (arith, length-map)
 
 -- in a tree with any item written at an index
 pub set-kept : {T : Type 0} (f : Forest T) (xs : List Subtree) (i : ℕ) (n : ℕ × T) (y : T) → n ≡ get_or f.nodes i n → IsTree f xs

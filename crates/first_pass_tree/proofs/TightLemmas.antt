@@ -43,9 +43,7 @@ tight_more : (depth i : ℕ) (ns : List (ℕ × Item))
 unfolding tight_node tight_at tight_run
 tight_more depth i [] h deep = absurd (omega arith)
 tight_more depth zero (n ∷ ns) h deep = (let t : nat_lt depth n.0 ≡ true = grind (arith, nat_tests, deep) in rw t refl)
-tight_more depth (suc i) (n ∷ ns) h deep =
-    let e : suc i + 1 ≡ suc (i + 1) = omega arith in
-    ap (λ k. tight_node depth (suc i) (tight_at depth k (n ∷ ns))) e ∙ ap (λ ms. n ∷ ms) (tight_more depth i ns (omega arith) deep)
+tight_more depth (suc i) (n ∷ ns) h deep = grind (arith, tight_more depth i ns (omega arith) deep)
 
 -- a node that is not two levels deeper
 pub node_stays : (depth i : ℕ) (ns : List (ℕ × Item)) → ((slice_index (depths ns) i == (depth + 2)) ≡ false) → tight_node depth i ns ≡ ns
@@ -135,23 +133,7 @@ pub record IsTightening (old : Forest Item) (depth from to at : ℕ) (now : Fore
 pub tightening_next : (old now next : Forest Item) (depth from to at : ℕ) → to ≤ length old.nodes
     → ((j : ℕ) → from ≤ j → j < to → depth < slice_index (depths old.nodes) j) → from < at → IsTightening old depth from to at now
     → next ≡ with_tight_node now depth (record { 0 = at - 1 }) → IsTightening old depth from to (at - 1) next
-tightening_next old now next depth from to at l deep b h e =
-    let k = at - 1 in
-    let s : at ≡ k + 1 = omega arith in
-    let w = h.within in
-    let d = deep k (omega arith) (omega arith) in
-    record {
-      before = omega arith;
-      within = omega arith;
-      depths_stay = ap (λ (v : Forest Item). depths v.nodes) e ∙ tight_node_depths depth k now.nodes ∙ h.depths_stay;
-      tight = λ f t.
-          let ds = tight_from_depths f old depth to t in
-          let c = same_count f old ds in
-          let deeper : depth < slice_index (depths f.nodes) k = subst (λ (v : List ℕ). depth < slice_index v k) ds d in
-          e
-          ∙ ap (λ (v : Forest Item). with_tight_node v depth (record { 0 = k })) (h.tight f t ∙ ap (tight_from f depth) s)
-          ∙ ap (λ (ns : List (ℕ × Item)). record f { nodes = ns }) (tight_more depth k f.nodes (omega arith) deeper);
-    }
+tightening_next old now next depth from to at l deep b h e = grind (arith, tight_node_depths, tight_from_depths, same_count, tight_more)
 
 -- the walk back over all nodes below a list of a depth: the paragraphs from an index on are tight
 pub record IsTightFrom (f : Forest Item) (list depth at : ℕ) (g : Forest Item) : Type 0 where
@@ -164,38 +146,20 @@ pub record IsTightFrom (f : Forest Item) (list depth at : ℕ) (g : Forest Item)
 -- at their end, no paragraph is tight yet
 pub walk_begins : (f : Forest Item) (list depth at : ℕ)
     → list < length f.nodes → depth ≡ slice_index (depths f.nodes) list → at ≡ end_of (depths f.nodes) list → IsTightFrom f list depth at f
-walk_begins f list depth at l d e =
-    let ds = depths f.nodes in
-    let m = length-map f.nodes (λ n. n.0) in
-    let n = tight_none depth at f.nodes (λ a. rw (e, d) (at-end ds list (omega arith) (omega arith))) in
-    record {
-      there = l;
-      depth_is = d;
-      following = omega arith;
-      within = omega arith;
-      tight = ap (λ (ns : List (ℕ × Item)). record f { nodes = ns }) (sym n);
-    }
+walk_begins f list depth at l d e = grind (arith, length-map, tight_none, at-end)
 
 -- its index is among the nodes, or at their end
 pub walk_within : (f g : Forest Item) (list depth at : ℕ) → IsTightFrom f list depth at g → at ≤ length g.nodes
-walk_within f g list depth at h =
-    let l = h.there in
-    omega
-    (arith, h.within, same_count f g (tight_from_depths f g depth at h.tight), run-within f.nodes (slice_index (depths f.nodes) list) (list + 1) (omega arith))
+walk_within f g list depth at h = grind (arith, same_count, tight_from_depths, run-within)
 
 -- every node below the list is deeper than it
 pub walk_deeper : (f g : Forest Item) (list depth at k : ℕ) → IsTightFrom f list depth at g → list < k → k < at → depth < slice_index (depths g.nodes) k
-walk_deeper f g list depth at k h a b =
-    let w = h.within in
-    let o = before-end (depths f.nodes) list k a (omega arith) in
-    subst (λ (ds : List ℕ). depth < slice_index ds k) (sym (tight_from_depths f g depth at h.tight))
-    (subst (λ (e : ℕ). e < slice_index (depths f.nodes) k) (sym h.depth_is) o)
+walk_deeper f g list depth at k h a b = grind (arith, before-end, tight_from_depths)
 
 -- the nodes after an inner list are tight too
 pub walk_over : (f g same h : Forest Item) (list depth at past : ℕ) → IsTightFrom f list depth at g → (list < past) × (past ≤ at)
     → same ≡ g → ((v : Forest Item) → same ≡ tight_from v depth at → h ≡ tight_from v depth past) → IsTightFrom f list depth past h
-walk_over f g same h list depth at past from a e t =
-    record { there = from.there; depth_is = from.depth_is; following = a.0; within = (let w = from.within in omega arith); tight = t f (e ∙ from.tight) }
+walk_over f g same h list depth at past from a e t = grind arith
 
 -- a step over an inner list, from the nodes after it to its index
 pub walk_next : (f h next : Forest Item) (list depth place past : ℕ)

@@ -17,9 +17,7 @@ abbrev IsKeptOrLowest : ℕ → ℕ → Type 0
 IsKeptOrLowest n k = (bit_at (n - 1) k ≡ 1) ⊎ ((i : ℕ) → i < k → bit_at n i ≡ 0)
 
 kept_by : (n k d : ℕ) → n % 2 ≡ d → 0 < n → bit_at n (suc k) ≡ 1 → (0 < n / 2 → bit_at (n / 2) k ≡ 1 → IsKeptOrLowest (n / 2) k) → IsKeptOrLowest n (suc k)
-kept_by n k (suc d) odd some set half =
-    let same : (n - 1) / 2 ≡ n / 2 = omega arith in
-    inl (bit_at-suc (n - 1) k ∙ ap (λ x. bit_at x k) same ∙ sym (bit_at-suc n k) ∙ set)
+kept_by n k (suc d) odd some set half = grind (arith, bit_at-suc)
 kept_by n k zero even some set half =
     let less : (n - 1) / 2 ≡ n / 2 - 1 = omega arith in
     elim (half (omega arith) (sym (bit_at-suc n k) ∙ set)) [
@@ -37,11 +35,7 @@ kept_or_lowest (suc k) n some set = kept_by n k (n % 2) refl some set (kept_or_l
 
 -- no bit below the lowest one is set
 no_lower : (n s t : ℕ) → bit_at n s ≡ 1 → ((i : ℕ) → i < t → bit_at n i ≡ 0) → t ≤ s
-no_lower n s t set none =
-    elim (cases_lt s t) [
-      | inl lower ↦ absurd (omega (arith, none s lower))
-      | inr h ↦ h
-    ]
+no_lower n s t set none = grind (arith, cases_lt)
 
 module _ (n : ℕ) (some : 0 < n) (fits : n < 2 ^ 64) where
   -- `n & (n - 1)` clears only the lowest set bit
@@ -60,11 +54,7 @@ module _ (n : ℕ) (some : 0 < n) (fits : n < 2 ^ 64) where
 
 -- a set bit of a number below 2 ^ n is one of n
 pub bit_below : (mask n k : ℕ) → mask < 2 ^ n → bit_at mask k ≡ 1 → k < n
-bit_below mask n k small set =
-    elim (cases_lt k n) [
-      | inl h ↦ h
-      | inr h ↦ absurd (omega (arith, bit_at_above mask n k small h, set))
-    ]
+bit_below mask n k small set = grind (arith, cases_lt, bit_at_above)
 
 -- the same bit after a shift
 pub shifted_bit : (mask s k : ℕ) → bit_at (mask / 2 ^ s) k ≡ bit_at mask (s + k)
@@ -95,31 +85,18 @@ tail_stops bytes next last mask from to h =
 -- the places before an offset, and those from there on to another
 pub unmarked_from : (lut : List Bool) (bytes : List ℕ) (ix next to : ℕ) → ((k : ℕ) → ix ≤ k → k < next → is_marked lut bytes k ≡ false)
     → ((k : ℕ) → next ≤ k → k < to → is_marked lut bytes k ≡ false) → (k : ℕ) → ix ≤ k → k < to → is_marked lut bytes k ≡ false
-unmarked_from lut bytes ix next to before after k from less =
-    elim (cases_lt k next) [
-      | inl h ↦ before k from h
-      | inr h ↦ after k h less
-    ]
+unmarked_from lut bytes ix next to before after k from less = grind (arith, cases_lt)
 
 -- the next marked byte from an offset on is the next from an earlier one, if none is between
 pub next_later : (lut : List Bool) (bytes : List ℕ) (ix next j : ℕ) → ix ≤ next → ((k : ℕ) → ix ≤ k → k < next → is_marked lut bytes k ≡ false)
     → IsNextMarked lut bytes next j → IsNextMarked lut bytes ix j
-next_later lut bytes ix next j later before is = record {
-  from = omega (arith, later, is.from);
-  within = is.within;
-  marked = is.marked;
-  least = unmarked_from lut bytes ix next j before is.least;
-}
+next_later lut bytes ix next j later before is = grind (arith, unmarked_from)
 
 module _ (lut : List Bool) (bytes : List ℕ) (at n mask : ℕ)
     (spares : SparesWords lut) (stops : AreWordStops bytes at n mask) where
   -- no byte without a set bit is marked
   spared : (k : ℕ) → k < n → (bit_at mask k ≡ 1 → is_marked lut bytes (at + k) ≡ false) → is_marked lut bytes (at + k) ≡ false
-  spared k less unless =
-      elim (cases_eq (bit_at mask k) 0) [
-        | inl clear ↦ spares (slice_index bytes (at + k)) (stops.stops k less ∙ ap (λ b. b == 0) clear)
-        | inr set ↦ unless (omega (arith, set, bit_at-lt mask k))
-      ]
+  spared k less unless = grind (arith, cases_eq, bit_at-lt)
 
   pub none_marked : ((k : ℕ) → bit_at mask k ≡ 1 → is_marked lut bytes (at + k) ≡ false) → (k : ℕ) → at ≤ k → k < at + n → is_marked lut bytes k ≡ false
   none_marked none k from less =

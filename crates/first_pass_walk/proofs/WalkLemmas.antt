@@ -12,14 +12,5 @@ pub walks_from_sum : {F T : Type 0} (step : F → ℕ → ℕ → LoopInstructio
     → (a ≡ b) ⊎ ((length marking.bytes ≤ a) × (length marking.bytes ≤ b)) → Walks step marking skips (a, f) (answer, last)
     → Walks step marking skips (b, f) (answer, last)
 walks_from_sum step marking a b skips f answer last (inl same) w = subst (λ (x : ℕ). Walks step marking skips (x, f) (answer, last)) same w
-walks_from_sum step marking a b [] f answer last (inr past) w =
-    let past_a = past.0 in
-    let past_b = past.1 in
-    elim w [
-      | inl stop ↦ inl (λ k from within. absurd (omega arith), stop.1, stop.2)
-      | inr call ↦ let in_range = next_within call.1 in absurd (omega arith)
-    ]
-walks_from_sum step marking a b (n ∷ ns) f answer last (inr past) w =
-    let past_a = past.0 in
-    let in_range = next_within w.1 in
-    absurd (omega arith)
+walks_from_sum step marking a b [] f answer last (inr past) w = grind (arith, next_within)
+walks_from_sum step marking a b (n ∷ ns) f answer last (inr past) w = grind (arith, next_within)

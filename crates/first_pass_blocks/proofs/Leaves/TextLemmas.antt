@@ -4,51 +4,40 @@ use Rattle.std.proofs.Common.{◌≡◌, inl, inr, ℕ, ◌+◌, ◌≤◌, ◌<
 use Rattle.std.proofs.Common.{subst, ◌∙◌, arith, if◌then◌else◌}
 use Rattle.first_pass_grammar.proofs.Common.{option_map_or, Item, ItemBody, Forest, IsForest, added, at_depth, body_at, in_table, line_len, begins, indent}
 use Rattle.first_pass_grammar.proofs.Common.{Place, offset, line_end, IsPlaceOf, place_at, columns_line_end, is_paragraph_body, begins_paragraph, Block}
-use Rattle.first_pass_grammar.proofs.Common.{flowing_block, Context, unindented, IsKind, Document, document, Tables, with_definitions, LinkEntry, Beyond}
-use Rattle.first_pass_grammar.proofs.Common.{Ended, FlowsOn, IsRun, lines_from, Line, OpensLeaf, Names, Extends, AreNamed, index_of, GrowsBy}
-use Rattle.first_pass_grammar.proofs.Common.{HasWholeTables, ShowsNothing, left_bracket, is_plain, begins_plain, plain_begins, Options}
+use Rattle.first_pass_grammar.proofs.Common.{flowing_block, unindented, IsKind, Document, document, Tables, with_definitions, LinkEntry, FlowsOn, IsRun}
+use Rattle.first_pass_grammar.proofs.Common.{lines_from, Line, OpensLeaf, Names, Extends, AreNamed, index_of, GrowsBy, HasWholeTables, ShowsNothing}
+use Rattle.first_pass_grammar.proofs.Common.{left_bracket, is_plain, begins_plain, plain_begins, Options}
+use Rattle.first_pass_blocks.proofs.Common.{text_named, tables_of, tables_in, names_of, NamesMore, extends_equal, extends_none, TablesAreWritten, with_tree}
+use Rattle.first_pass_blocks.proofs.Common.{is_list, top_body, list_finished, PassState, line_end_at, AddsBetween, path_of, allocs_of, context_in, state_of}
+use Rattle.first_pass_blocks.proofs.Common.{source_of, source_options, source_text, tree_of, closed_in, Ready, IsReadTo, line_or, OrderedIn, ReadsLeaf}
+use Rattle.first_pass_blocks.proofs.Common.{IsLater, ReadsRun, PutsDefinitions, AddsText, no_table, count, list_finished_count, block_count, leaf_left}
+use Rattle.first_pass_blocks.proofs.Common.{left_before, path_finished, list_finished_blank, line_or-below, ordered_finished, ordered_leaf, place_before_end}
+use Rattle.first_pass_blocks.proofs.Common.{unindented_later, IsStateAtPlace, ready_added, list_finished_none, block_added, list_finished_named}
+use Rattle.first_pass_blocks.proofs.Common.{list_finished_whole, kept_of, block_whole, all_keep, Source}
+use Rattle.first_pass_blocks.specs.Titles.{ReadsTextOrTitle}
 use Rattle.first_pass_items.specs.declared.item.ItemBody.TheVariants.{Paragraph as ParagraphBody}
 use Rattle.first_pass_grammar.specs.Kinds.{Paragraph}
-use Rattle.first_pass_grammar.proofs.Names.TextsNamed.{text_named}
-use Rattle.first_pass_names.specs.TableEntries.{tables_of, tables_in, names_of, NamesMore}
-use Rattle.first_pass_names.proofs.NameLemmas.{extends_equal, extends_none}
-use Rattle.first_pass_blocks.specs.Written.{TablesAreWritten}
-use Rattle.first_pass_lists.specs.Closing.{with_tree, current_body, is_list, top_body, is_after_definition, list_finished, title_begun, definitions_left}
-use Rattle.first_pass_lists.specs.Closing.{possible_title}
-use Rattle.first_pass_lists.specs.declared.state.PassState.{PassState}
-use Rattle.first_pass_open.specs.Between.{line_end_at, AddsBetween}
-use Rattle.first_pass_open.specs.Path.{path_of}
+use Rattle.first_pass_lists.specs.Closing.{current_body, is_after_definition, title_begun, definitions_left, possible_title}
 use Rattle.first_pass_blocks.specs.declared.state.BlockPass.{BlockPass}
 use Rattle.first_pass_blocks.specs.declared.definition.RunEnd.TheVariants.{NextLine, Paragraph as TextAfter}
-use Rattle.first_pass_blocks.specs.Views.{allocs_of, context_in, state_of, source_of, source_options, source_text, tree_of}
-use Rattle.first_pass_ready.specs.State.{closed_in, Ready}
-use Rattle.first_pass_order.specs.Ordered.{IsReadTo}
-use Rattle.first_pass_containers.specs.Positions.{ReadyLeaf, OrderedUpTo, line_or, OrderedIn}
-use Rattle.first_pass_blocks.specs.Progress.{ReadsLeaf}
-use Rattle.first_pass_blocks.specs.Runs.{IsLater, ReadsRun, PutsDefinitions, ReadsDefinitions}
-use Rattle.first_pass_containers.specs.TextsAdded.{AddsText}
+use Rattle.first_pass_containers.specs.Positions.{ReadyLeaf, OrderedUpTo}
+use Rattle.first_pass_blocks.specs.Runs.{ReadsDefinitions}
 use Rattle.first_pass_containers.specs.Titles.{current_end, is_paragraph_last, title_read}
-use Rattle.first_pass_blocks.specs.Titles.{ReadsTextOrTitle}
 use Rattle.first_pass_ready.proofs.AddedLemmas.{body_after}
-use Rattle.first_pass_ready.proofs.BegunLemmas.{no_table}
-use Rattle.first_pass_order.proofs.CountLemmas.{count, list_finished_count, title_begun_count, definitions_left_count, block_count, leaf_left, left_before}
+use Rattle.first_pass_order.proofs.CountLemmas.{title_begun_count, definitions_left_count}
 use Rattle.first_pass_order.proofs.DefinitionOrder.{ReadAfterDefinition, read_definitions_left, read_title_begun}
-use Rattle.first_pass_ready.proofs.FinishLemmas.{EndsListAt, path_finished}
+use Rattle.first_pass_ready.proofs.FinishLemmas.{EndsListAt}
 use Rattle.first_pass_containers.proofs.Leaves.FirstItems.{text_silent_first, text_flat, IsTaskMark, mark_has}
-use Rattle.first_pass_containers.proofs.OrderSteps.{list_finished_blank, line_or-below, ordered_finished, ordered_leaf, upto_later, place_before_end}
-use Rattle.first_pass_containers.proofs.OrderSteps.{unindented_later, IsStateAtPlace}
-use Rattle.first_pass_containers.proofs.Leaves.LeafLemmas.{ready_ended, text_away, opens_flow, ready_added, text_opens, ready_kept, away_left}
+use Rattle.first_pass_containers.proofs.OrderSteps.{upto_later}
+use Rattle.first_pass_containers.proofs.Leaves.LeafLemmas.{ready_ended, text_away, opens_flow, text_opens, ready_kept, away_left}
 use Rattle.first_pass_ready.proofs.LeftBlocks.{left_is}
-use Rattle.first_pass_lists.proofs.NoEmptyItem.{list_finished_none}
-use Rattle.first_pass_order.proofs.NamedLemmas.{block_added, list_finished_named, title_begun_named, task_has_none}
+use Rattle.first_pass_order.proofs.NamedLemmas.{title_begun_named, task_has_none}
 use Rattle.first_pass_order.proofs.DefinitionsWhole.{title_begun_whole}
-use Rattle.first_pass_order.proofs.WholeKept.{list_finished_whole, kept_of, block_whole, added_text_whole, task_shows}
+use Rattle.first_pass_order.proofs.WholeKept.{added_text_whole, task_shows}
 use Rattle.first_pass_blocks.proofs.LinkDefinitions.{written_stay, run_is_empty, puts_none}
 use Rattle.first_pass_blocks.specs.declared.definition.RunEnd.{RunEnd}
 use Rattle.first_pass_open.proofs.PlainLemmas.{plain_all}
 use Rattle.first_pass_kinds.proofs.PlainKinds.{plain_kind}
-use Rattle.first_pass_open.proofs.PlaceLemmas.{all_keep}
-use Rattle.first_pass_open.specs.declared.source.Source.{Source}
 
 -- if a leaf is ready to be read, no table is open
 leaf_plain : (d : Document) (defined : Tables) (r : PassState) (p : Place) (lines : List Place)
@@ -56,19 +45,15 @@ leaf_plain : (d : Document) (defined : Tables) (r : PassState) (p : Place) (line
 leaf_plain d defined r p lines (inl (bare, no_start, ready)) = no_table d.options r.tree.nodes r.tree.spine ready.frames ready.are_open
 leaf_plain d defined r p lines (inr lazy) = no_table d.options r.tree.nodes r.tree.spine lazy.ready.frames lazy.ready.are_open
 
--- a later place is not before a place, and neither is its line
+-- a later place is not before a place, and neither is its line, which begins at a character boundary too
 later_than : (text : List ℕ) (p q : Place) → offset p ≤ offset (unindented p) → IsLater text (unindented p) q
-    → (p.line ≤ q.line) × (offset p ≤ offset q)
-later_than text p q mid (inl (same, low)) = (let line : q.line ≡ p.line = same in omega arith, omega arith)
-later_than text p q mid (inr (low, there)) = (let ends = place_before_end (unindented p) in (omega arith, omega arith))
+    → (p.line ≤ q.line) × (offset p ≤ offset q) × (IsCharBoundary text p.line → IsCharBoundary text q.line)
+later_than text p q mid (inl (same, low)) = (let line : q.line ≡ p.line = same in omega arith, omega arith, λ begins. rw same begins)
+later_than text p q mid (inr (low, there)) = (let ends = place_before_end (unindented p) in (omega arith, omega arith, λ begins. there))
 
 or_later : (t : Bool) (l a m b : ℕ) → l ≤ m → a ≤ b → (if t then l else a) ≤ (if t then m else b)
 or_later true l a m b low high = low
 or_later false l a m b low high = high
-
-later_line : (text : List ℕ) (p q : Place) → IsCharBoundary text p.line → IsLater text (unindented p) q → IsCharBoundary text q.line
-later_line text p q begins (inl (same, low)) = subst (IsCharBoundary text) (sym same) begins
-later_line text p q begins (inr (low, there)) = there
 
 -- Order up to a place, or up to the start of its line if a list is innermost, is such an order at a later place.
 later_ordered : (text : List ℕ) (f : Forest Item) (p q : Place) → offset p ≤ offset (unindented p) → IsLater text (unindented p) q → IsPlaceOf text q
@@ -78,12 +63,7 @@ later_ordered text f p q mid later i (begins, o) =
     let below = or_later (is_list (top_body f)) p.line (offset p) q.line (offset q) on.0 on.1 in
     let here : line_or f q.line (offset q) ≤ offset q = line_or-below f q.line (offset q) (omega arith) in
     let within = i.within in
-    (later_line text p q begins later, upto_later text f (line_or f p.line (offset p)) (line_or f q.line (offset q)) below (omega arith) o)
-
--- the start of the lines after a place that is read after its indentation
-run_from : (text : List ℕ) (around : Context) (p : Place) (xs : List LinkEntry) (b : Beyond)
-    → IsRun around (unindented p) (lines_from text (line_end (unindented p))) xs b → IsRun around (unindented p) (lines_from text (line_end p)) xs b
-run_from text around p xs b run = subst (λ n. IsRun around (unindented p) (lines_from text n) xs b) (columns_line_end (indent p.rest) p) run
+    (on.2 begins, upto_later text f (line_or f p.line (offset p)) (line_or f q.line (offset q)) below (omega arith) o)
 
 -- A pass read the link reference definitions at a place, or none, and put them into its table. This follows them.
 pub record RunRead (old mid : BlockPass) (p : Place) (following : RunEnd) : Type 0 where
@@ -132,7 +112,7 @@ run_line old mid new p line next is_at kind definitions source allocs state =
       ready = λ more extends ready.
           let d = document text (source_options old) more in
           let plain = leaf_plain d (tables_of (allocs_of old)) r p (lines_from text (line_end p)) ready in
-          let run = run_from text (context_in old) p w.definitions (Ended q (lines_from text next)) (w.run plain) in
+          let run = rw there at (w.run plain) in
           rw (ap tables_of allocs ∙ w.defined plain, following)
           (ready_ended d (tables_of (allocs_of old)) r p q next w.definitions is_at.forest kind run is_at.none ready);
       order = λ o. let on = later_ordered text r.tree p q further w.later w.stands o in
@@ -190,7 +170,7 @@ run_text old mid new p at next is_at kind definitions source adds t =
       boundary = t.boundary;
       ready = λ more extends ready.
           let plain = leaf_plain (document text (source_options old) more) (tables_of (allocs_of old)) (state_of old) p (lines_from text (line_end p)) ready in
-          let run = run_from text (context_in old) p w.definitions (FlowsOn q (lines_from text (line_end q))) (w.run plain) in
+          let run = rw there at (w.run plain) in
           rw (ap tables_in adds.entries ∙ w.defined plain) (t.ready more extends w.definitions (tables_of (allocs_of old)) run ready);
       order = λ o. inl (t.order (later_ordered text (tree_of old) p q further w.later w.stands o).1);
       node_bound = t.node_bound (offset p) (omega arith) (omega arith);
@@ -263,8 +243,8 @@ module _ (old new : BlockPass) (p q : Place) (next : ℕ) (is_at : IsStateAtPlac
         (record { forest = is_at.forest; none = is_at.none; kind = Paragraph; is_kind = kind; opens = opens; away = λ begins. away xs })
         (record {
           tree_is = block.tree_is;
-          none = ap (λ (z : PassState). z.begin_list_item) is ∙ list_finished_none ends r;
-          blank = ap (λ (z : PassState). z.blank) is ∙ list_finished_blank ends r;
+          none = rw is (list_finished_none ends r);
+          blank = rw is (list_finished_blank ends r);
         }) ready;
     order = order;
     node_bound = node_bound;
@@ -326,8 +306,7 @@ module _ (old new : BlockPass) (p q : Place) (next : ℕ) (is_at : IsStateAtPlac
               is_at.none (begins_as ∙ para) ready);
           order = λ o. rw is (read_title_begun text r read next (read_there o) last refl current);
           node_bound = λ from low apart. let g = grown from low apart in
-              let same = ap count is ∙ title_begun_count last (with_tree r read) current in
-              omega arith;
+              let same = ap count is ∙ title_begun_count last (with_tree r read) current in omega arith;
           kept = λ more. let added = text_kept (document text options own) before r.tree read q None next block stands tt more in (
             λ h. rw is (title_begun_named own last (with_tree r read) (added.0 h)),
             λ h k. rw is (title_begun_whole own last (with_tree r read) current (added.1 h k)),
@@ -370,14 +349,8 @@ pub new_text : (old new : BlockPass) (ended : PassState) (at next : ℕ) → is_
     → AddsText (document (source_text old) (source_options old) (names_of (allocs_of new))) at None ended.tree (tree_of new) next
     → ((from : ℕ) → from ≤ at → AddsBetween (source_text old) from next ended.tree (tree_of new)) → state_of new ≡ with_tree ended (tree_of new)
     → ReadsTextOrTitle old new at next
-new_text old new ended at next after is source more text fits state = inr (record {
-  after = after;
-  source = source;
-  more = more;
-  text = rw is at text;
-  fits = rw is at fits;
-  state_is = rw is at state;
-})
+new_text old new ended at next after is source more text fits state =
+    inr (record { after = after; source = source; more = more; text = rw is at text; fits = rw is at fits; state_is = rw is at state })
 
 -- a text is added at an offset, and lies between others
 abbrev AddsAt : Source → Names → ℕ → Forest Item → Forest Item → ℕ → Type 0
@@ -410,7 +383,7 @@ text_read old mid new p at next is_at kind definitions (inr t) =
 pub run_text_or_title : (old mid new : BlockPass) (p : Place) (at next : ℕ) → IsStateAtPlace (source_text old) (state_of old) p
     → IsKind (source_options old) p.rest Paragraph → RunRead old mid p (TextAfter at) → ReadsTextOrTitle mid new at next → ReadsLeaf old new p next
 run_text_or_title old mid new p at next is_at kind definitions t =
-    text_read old mid new p at next is_at kind definitions (subst (λ n. ReadsTextOrTitle mid new n next) definitions.run.says t)
+    text_read old mid new p at next is_at kind definitions (rw definitions.run.says at t)
 
 -- no column is owed at a place, and a plain byte is next
 abbrev pub IsAtPlain : Place → Type 0
@@ -421,14 +394,7 @@ pub plain_leaf : (old new : BlockPass) (p : Place) (next : ℕ) → IsStateAtPla
     → ReadsTextOrTitle old new (offset p) next → ReadsLeaf old new p next
 unfolding is_plain
 plain_leaf old new p next is_at (owed, plain) =
-    let text = source_text old in
-    let tables = tables_of (allocs_of old) in
-    let nested = in_table (tree_of old).nodes (tree_of old).spine in
     let same : p ≡ unindented p = ap (place_at p.line) (sym (plain_all p.rest owed plain)) in
     let other = ap (begins left_bracket) (sym is_at.place.left) ∙ plain_begins left_bracket p.rest.left plain refl in
     run_text_or_title old old new p (offset p) next is_at (plain_kind (source_options old) p.rest owed plain)
-    (record {
-      kept = puts_none old;
-      run = subst (λ (q : Place). ReadsRun text (context_in old) nested q tables tables (TextAfter (offset p))) same
-          (run_is_empty text (context_in old) nested p (offset p) tables is_at.place refl other);
-    })
+    (record { kept = puts_none old; run = rw (← same) (run_is_empty (source_text old) (context_in old) _ p (offset p) _ is_at.place refl other) })

@@ -1,33 +1,20 @@
 -- An added paragraph or table is the one of its text.
-use Rattle.std.proofs.Common.{◌≡◌, ℕ, ◌+◌, ◌-◌, ◌≤◌, List, ◌++◌, length, drop, Option, Some, None, MatchOption, IsUtf8, IsCharBoundary, refl, sym, ap}
-use Rattle.std.proofs.Common.{subst, ◌∙◌, arith, inl, inr, drop-drop}
-use Rattle.first_pass_grammar.proofs.Common.{cases_lt, Alignment, AlignmentIndex, Item, Table, TableHead, Options, TreeIndex, Forest, added, block_of}
-use Rattle.first_pass_grammar.proofs.Common.{popped, line_len, Place, offset, line_end, line_place, start_of, IsPlaceOf, lines_at-line, lines_at-end}
-use Rattle.first_pass_grammar.proofs.Common.{line_is_place, start_of-lines, no_braces, spot, Context, context, Names, Extends, NamesAlignments, Document}
-use Rattle.first_pass_grammar.proofs.Common.{document, lines_from, headed_table, AreCells, inserted, row_block, Taken, taking, TableSoFar, table_so_far}
-use Rattle.first_pass_grammar.proofs.Common.{AreRows, most_inserted, IsTable, IsPlainText, IsText, within_top}
+use Rattle.std.proofs.Common.{◌≡◌, ℕ, ◌+◌, ◌-◌, ◌≤◌, List, ◌++◌, length, drop, Option, Some, None, IsUtf8, IsCharBoundary, refl, sym, ap, subst, ◌∙◌, arith}
+use Rattle.std.proofs.Common.{inl, inr, drop-drop}
+use Rattle.first_pass_grammar.proofs.Common.{cases_lt, Alignment, AlignmentIndex, Item, Table, TableHead, Options, TreeIndex, Forest, added, block_of, popped}
+use Rattle.first_pass_grammar.proofs.Common.{line_len, Place, offset, line_end, line_place, start_of, IsPlaceOf, lines_at-line, lines_at-end, line_is_place}
+use Rattle.first_pass_grammar.proofs.Common.{start_of-lines, no_braces, spot, Context, context, Names, Extends, NamesAlignments, document, lines_from}
+use Rattle.first_pass_grammar.proofs.Common.{headed_table, inserted, row_block, taking, TableSoFar, table_so_far, most_inserted, IsTable, IsText, within_top}
+use Rattle.first_pass_blocks.proofs.Common.{IsJustPushed, begun_item, opened_block, path_of, context_of, line_end_at, AddsBetween, with_below, AppendsRows}
+use Rattle.first_pass_blocks.proofs.Common.{AddsText}
 use Rattle.first_pass_tree.proofs.Blocks.{BlockCalls, block-built}
 use Rattle.first_pass_kinds.specs.TableHeads.{table_head_len}
-use Rattle.first_pass_grammar.specs.declared.kind.Container.{Container}
 use Rattle.first_pass_order.proofs.HeadLines.{headed_has_line}
 use Rattle.first_pass_grammar.proofs.Names.TextsMore.{cells_more, rows_more}
-use Rattle.first_pass_open.specs.OpenBlock.{IsJustPushed, begun_item, opened_block}
 use Rattle.first_pass_open.proofs.BlockLemmas.{just_pushed}
-use Rattle.first_pass_open.specs.Path.{path_of, context_of}
 use Rattle.first_pass_open.proofs.PathLemmas.{AreIn, path_of-opened}
-use Rattle.first_pass_open.specs.Between.{line_end_at, AddsBetween}
 use Rattle.first_pass_text.specs.Appends.{AddsPlainText}
-use Rattle.first_pass_tables.specs.Appends.{with_below, AppendsRows}
-use Rattle.first_pass_containers.specs.TextsAdded.{AddsText}
 use Rattle.first_pass_tables.proofs.TableFits.{table_fits}
-
--- a text whose first line heads a table, or none
-text_by : (d : Document) (path : List Container) (p : Place) (marker : Option Item) (lines : List Place) (t : Taken) (o : Option (List Alignment))
-    → headed_table (context d.options path) p.rest.left ≡ o
-    → MatchOption o (IsPlainText d path (offset p) marker lines t) (λ alignments. IsTable d path p alignments lines t) → IsText d path p marker lines t
-unfolding IsText
-text_by d path p marker lines t o e h =
-    subst (λ o. MatchOption o (IsPlainText d path (offset p) marker lines t) (λ alignments. IsTable d path p alignments lines t)) (sym e) h
 
 -- the end of a line with a place
 there_ends : (text : List ℕ) (p : Place) (start : ℕ) → IsPlaceOf text p → offset p ≡ start → line_end_at text start ≡ line_end p
@@ -41,21 +28,14 @@ headed_at context text p start o i at h = ap (headed_table context) (i.left ∙ 
 pub plain_text_added : (text : List ℕ) (options : Options) (names : Names) (start : ℕ) (marker : Option Item) (old new : Forest Item) (next : ℕ)
     → headed_table (context_of options old) (drop start text) ≡ None
     → AddsPlainText (document text options names) start marker old new next → AddsText (document text options names) start marker old new next
-plain_text_added text options names start marker old new next none a =
-    let t : Taken = taking a.items (lines_from text next) in
-    record {
-      items = a.items;
-      is_text = λ more e p i at.
-          let d = document text options more in
-          let path = path_of options old in
-          let here : IsPlainText d path (offset p) marker (lines_from text (line_end p)) t =
-          subst (λ k. IsPlainText d path k marker (lines_from text (line_end p)) t) (sym at)
-          (subst (λ k. IsPlainText d path start marker (lines_from text k) t) (there_ends text p start i at) (a.is more e)) in
-          text_by d path p marker (lines_from text (line_end p)) t None (headed_at (context options path) text p start None i at none) here;
-      tree_is = a.tree_is;
-      later = a.later;
-      boundary = a.boundary;
-    }
+unfolding IsText
+plain_text_added text options names start marker old new next none a = record {
+  items = a.items;
+  is_text = λ more e p i at. rw (headed_at (context_of options old) text p start None i at none, ← there_ends text p start i at, at) (a.is more e);
+  tree_is = a.tree_is;
+  later = a.later;
+  boundary = a.boundary;
+}
 
 pub only_opened : (old opened : Forest Item) (start : ℕ) (ix : AlignmentIndex)
     → opened ≡ opened_block old start (Table ix) → (place : TreeIndex) × IsJustPushed opened place
@@ -123,27 +103,18 @@ module _ (text : List ℕ) (options : Options) (names : Names) (start body next 
         cells = r.cells;
         head_end = r.head_end;
         after = r.after;
-        are_cells = subst (λ k. AreCells d (spot k no_braces) r.cells (spot r.head_end r.after)) (sym at)
-            (cells_more text options names more (spot start no_braces) r.cells (spot r.head_end r.after) e r.are_cells);
+        are_cells = rw (at) (cells_more text options names more (spot start no_braces) r.cells (spot r.head_end r.after) e r.are_cells);
         body = r.body;
-        are_rows = subst (λ ls. AreRows d (path_of options old) table ls (taking r.body left)) lines
-            (subst (λ c. AreRows d c table (lines_from text body) (taking r.body left)) path
-            (rows_more text options names more (path_of options (opened_block old start (Table ix))) table (lines_from text body) (taking r.body left) e
-            r.are_rows));
-        items_are = ap (λ k. block_of (record { start = start; «end» = k; body = Table ix }) (row_block TableHead columns start r.cells r.head_end ++ r.body))
-            (sym ends)
-            ∙ ap (λ k.
-            block_of (record { start = k; «end» = start_of (length text) left; body = Table ix }) (row_block TableHead columns k r.cells r.head_end ++ r.body))
-            (sym at);
+        are_rows = rw (← lines, ← path) (rows_more text options names more (path_of options (opened_block old start (Table ix))) table (lines_from text body)
+            (taking r.body left) e r.are_rows);
+        items_are = rw (ends, at) refl;
       }
 
   pub table_text : (marker : Option Item) → AddsText (document text options names) start marker old new next
+  unfolding IsText
   table_text marker = record {
     items = table_items;
-    is_text = λ more e p i at.
-        text_by (document text options more) (path_of options old) p marker (lines_from text (line_end p)) (taking table_items (lines_from text next))
-        (Some alignments)
-        (headed_at (context options (path_of options old)) text p start (Some alignments) i at headed) (table_is more e p i at);
+    is_text = λ more e p i at. rw (headed_at (context_of options old) text p start (Some alignments) i at headed) (table_is more e p i at);
     tree_is = table_tree;
     later = let low = r.later in omega arith;
     boundary = r.boundary;

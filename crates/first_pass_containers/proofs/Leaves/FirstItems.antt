@@ -1,15 +1,14 @@
 -- No leaf block begins with a possible title; one that begins with a paragraph has no part of a table. The items of a text
 -- have a first one, and if that is no paragraph, none of them is one.
 use Rattle.std.proofs.Common.{◌≡◌, ℕ, Bool, true, false, List, [], ◌∷◌, drop, Option, Some, None, MatchOption, IfSome, refl, sym, ap, subst, ◌-◌, ◌++◌}
-use Rattle.std.proofs.Common.{length, ◌∙◌, true≢false}
+use Rattle.std.proofs.Common.{length, true≢false, arith}
 use Rattle.first_pass_grammar.proofs.Common.{Alignment, HeadingLevel, Item, ItemBody, MaybeDefinitionListTitle, Table, TableHead, Options, Forest, Place}
-use Rattle.first_pass_grammar.proofs.Common.{offset, line_end, start_of, begins_paragraph, is_paragraph_body, BlankLine, Block, leaf_block, lines_from}
-use Rattle.first_pass_grammar.proofs.Common.{Kind, Blank, IndentedCode, Metadata, HtmlToEnd, HtmlToBlank, ThematicBreak, AtxHeading, FencedCode}
-use Rattle.first_pass_grammar.proofs.Common.{LinkDefinitions, unindented, Document, document, around, TextLines, Ended, FlowsOn, Names, Line, Opening}
-use Rattle.first_pass_grammar.proofs.Common.{OpensLeaf, OpensNode, OpensText, OpensRun, OpensAs, headed_table, Taken, IsTable, taking, TableSoFar}
-use Rattle.first_pass_grammar.proofs.Common.{table_so_far, most_inserted, inserted, row_block, IsPlainText, IsText, IsUnderlined, plain_text}
-use Rattle.first_pass_grammar.proofs.Common.{underline_first, heading_children, ShowsNothing, AreEachNode, may_be_title, no_braces, spot, leaves}
-use Rattle.first_pass_grammar.proofs.Common.{is_task_marker}
+use Rattle.first_pass_grammar.proofs.Common.{offset, line_end, start_of, begins_paragraph, is_paragraph_body, BlankLine, Block, leaf_block, lines_from, Kind}
+use Rattle.first_pass_grammar.proofs.Common.{Blank, IndentedCode, Metadata, HtmlToEnd, HtmlToBlank, ThematicBreak, AtxHeading, FencedCode, LinkDefinitions}
+use Rattle.first_pass_grammar.proofs.Common.{unindented, Document, document, around, TextLines, Ended, FlowsOn, Names, Line, Opening, OpensLeaf, OpensNode}
+use Rattle.first_pass_grammar.proofs.Common.{OpensText, OpensRun, OpensAs, headed_table, Taken, IsTable, taking, TableSoFar, table_so_far, most_inserted}
+use Rattle.first_pass_grammar.proofs.Common.{inserted, row_block, IsPlainText, IsText, IsUnderlined, plain_text, underline_first, heading_children}
+use Rattle.first_pass_grammar.proofs.Common.{ShowsNothing, AreEachNode, may_be_title, no_braces, spot, leaves, is_task_marker}
 use Rattle.first_pass_items.specs.declared.item.ItemBody.TheVariants.{Paragraph as ParagraphBody, Heading as HeadingBody}
 use Rattle.first_pass_grammar.specs.declared.kind.Container.{Container}
 use Rattle.first_pass_grammar.specs.Kinds.{Paragraph}
@@ -72,13 +71,7 @@ mark_has P own (Some x) mark = own x.body mark
 ended_flat : (d : Document) (start : ℕ) (marker : Option Item) (l : TextLines) (t : Taken) (o : Option (ℕ × HeadingLevel)) → IsTaskMark marker
     → AreEach IsNoParagraph l.chain → MatchOption o (t ≡ plain_text d start marker l) (λ underline. IsUnderlined d start marker l underline.1 t)
     → IsFlatText t.items
-ended_flat d start marker l t None mark h e = record {
-  first = _;
-  more = _;
-  is = ap (λ (z : Taken). z.items) e;
-  untitled = refl;
-  flat = λ other. absurd (true≢false (sym (ap (λ (z : Taken). begins_paragraph z.items) e) ∙ other));
-}
+ended_flat d start marker l t None mark h e = grind arith
 ended_flat d start marker l t (Some underline) mark h (index, named, e) =
     let chain : List Item = heading_children d start marker l in
     record {
@@ -122,8 +115,7 @@ module _ (d : Document) where
   -- a paragraph, heading or table
   text_untitled : (path : List Container) (p : Place) (marker : Option Item) (lines : List Place) (t : Taken) → IsTaskMark marker
       → IsText d path p marker lines t → IsUntitled t.items
-  text_untitled path p marker lines t mark is =
-      let flat = text_flat d path p marker lines t mark is in untitled_is flat.first flat.more t.items flat.is flat.untitled
+  text_untitled path p marker lines t mark is = grind (arith, text_flat, untitled_is)
 
   opens_text : (path : List Container) (p : Place) (lines : List Place) (o : Opening) → OpensText d path p lines None o → OpensUntitled o
   unfolding OpensText

@@ -1,99 +1,78 @@
 -- The lines after the line in which something ends: a link reference definition, or the head of a footnote definition.
 -- The place where blocks continue after such a head, and the contents of a head that is read.
-use Rattle.std.proofs.Common.{◌≡◌, inl, inr, ℕ, zero, suc, ◌+◌, ◌-◌, ◌<◌, ◌≤◌, Bool, true, false, cond, nat_lt, List, [], ◌∷◌, length, drop, slice_index}
-use Rattle.std.proofs.Common.{refl, sym, ap, ◌∙◌, arith, Option, Some, None, is_some, IsUtf8, IsCharBoundary, subst, length-drop, if◌then◌else◌, ◌&&◌}
-use Rattle.std.proofs.Common.{true≢false, drop-drop, get_or-drop, unwrap_or, option_and_then}
-use Rattle.first_pass_grammar.proofs.Common.{cases_lt, nat_tests, drop_all, is_line_end, ends_line, line_len, begins, is_white, blank_len, Place, offset}
-use Rattle.first_pass_grammar.proofs.Common.{line_end, IsPlaceOf, line_place, line_len-some, line_len-within, lines_at-line, lines_at-end, lines_beyond}
-use Rattle.first_pass_grammar.proofs.Common.{lines_from, prefix_len, colon, gfm_footnotes, has, footnotes, indent, label_at, first_byte}
-use Rattle.first_pass_grammar.proofs.Common.{begins_footnote_mark, head_after, footnote_head, Document, place_length, columns_line_end, bytes_line_end}
-use Rattle.first_pass_grammar.proofs.Common.{line_end_boundary, unindented, is_blank_rest, place_past, past_head, footnote_at, footnote_head_at, Context}
-use Rattle.first_pass_lines.proofs.LineFacts.{line_len-none, line_len-step, line_len-inside}
-use Rattle.first_pass_lines.proofs.LineFacts.{line_len-blank}
+use Rattle.std.proofs.Common.{◌≡◌, inl, inr, ℕ, zero, suc, ◌+◌, ◌-◌, ◌<◌, ◌≤◌, Bool, true, false, nat_lt, List, [], ◌∷◌, length, drop, slice_index, refl, sym}
+use Rattle.std.proofs.Common.{ap, ◌∙◌, arith, Option, Some, None, IsUtf8, IsCharBoundary, subst, length-drop, if◌then◌else◌, true≢false}
+use Rattle.std.proofs.Common.{drop-drop, get_or-drop, unwrap_or, option_and_then}
+use Rattle.first_pass_grammar.proofs.Common.{cases_lt, nat_tests, drop_all, is_line_end, line_len, begins, is_white, blank_len, Place, offset, line_end}
+use Rattle.first_pass_grammar.proofs.Common.{IsPlaceOf, line_place, line_len-within, lines_at-line, lines_at-end, lines_beyond, lines_from, prefix_len, colon}
+use Rattle.first_pass_grammar.proofs.Common.{gfm_footnotes, indent, label_at, first_byte, begins_footnote_mark, head_after, footnote_head}
+use Rattle.first_pass_grammar.proofs.Common.{Document, place_length, columns_line_end, bytes_line_end, line_end_boundary, unindented, is_blank_rest}
+use Rattle.first_pass_grammar.proofs.Common.{place_past, past_head, footnote_at, footnote_head_at, Context}
+use Rattle.first_pass_lines.proofs.LineFacts.{line_len-none, line_len-inside, line_len-blank}
 use Rattle.first_pass_ready.proofs.FootnoteLemmas.{after_note}
 use Rattle.first_pass_open.proofs.PlaceLemmas.{all_keep, line_start_end}
 use Rattle.first_pass_containers.specs.FootnoteHeads.{head_read, blank_before_more, head_end, after_head, footnote_mark_at}
 use Rattle.first_pass_grammar.proofs.Order.RowEnds.{white_content}
+use Rattle.first_pass_lines.proofs.PlaceFacts.{last_of_line}
 
--- the last byte of a line before another line is its line ending
-ends_by : (b : ℕ) (bs : List ℕ) → ends_line b bs ≡ true → is_line_end b ≡ true
-ends_by b bs h = grind (arith, h)
+-- two offsets in a line have the same end of it
+same_end : (text : List ℕ) (s e : ℕ) → s ≤ e → e < s + line_len (drop s text) → s + line_len (drop s text) ≡ e + line_len (drop e text)
+same_end text s e low less =
+    let k : ℕ = e - s in
+    let inside = line_len-inside (drop s text) k (omega arith) in
+    let there : s + k ≡ e = omega arith in
+    let same = ap line_len (drop-drop k s text ∙ ap (λ (n : ℕ). drop n text) there) in
+    omega arith
 
-last_by : (b : ℕ) (bs : List ℕ) (n : ℕ) (t : Bool) → ends_line b bs ≡ t → cond t 1 (line_len bs + 1) ≡ suc n → n < length bs
-    → ((m : ℕ) → line_len bs ≡ suc m → suc m < length bs → is_line_end (slice_index bs m) ≡ true) → is_line_end (slice_index (b ∷ bs) n) ≡ true
-last_by b bs n true ends is more rest = (let first : n ≡ 0 = omega arith in ap (λ k. is_line_end (slice_index (b ∷ bs) k)) first ∙ ends_by b bs ends)
-last_by b bs zero false ends is more rest = (let some = line_len-some bs more in absurd (omega arith))
-last_by b bs (suc m) false ends is more rest = rest m (omega arith) more
-
-last_is_end : (bs : List ℕ) (n : ℕ) → line_len bs ≡ suc n → suc n < length bs → is_line_end (slice_index bs n) ≡ true
-last_is_end [] n is more = absurd (omega arith)
-last_is_end (b ∷ bs) n is more =
-    last_by b bs n (ends_line b bs) refl (sym (line_len-step b bs) ∙ is) (omega arith) (λ m here further. last_is_end bs m here further)
+-- a later offset is not in an earlier line
+pub line_after : (text : List ℕ) (s e : ℕ) → s ≤ e → s + line_len (drop s text) ≤ e + line_len (drop e text)
+line_after text s e low =
+    elim (cases_lt e (s + line_len (drop s text))) [ inl less ↦ omega (arith, same_end text s e low less) | inr more ↦ omega arith ]
 
 -- no line that begins after an offset is left out
 kept_lines : (text : List ℕ) (e l : ℕ) → e ≤ l → lines_beyond e (lines_from text l) ≡ lines_from text l
 unfolding lines_beyond
-kept_lines text e l low =
-    elim (cases_lt l (length text)) [
-      | inl within ↦ (let first = lines_at-line text l within in
-          let no_less : nat_lt l e ≡ false = grind (arith, nat_tests, low) in
-          rw (first, no_less) refl)
-      | inr past ↦ (let none : lines_from text l ≡ [] = lines_at-end text l past in rw none refl)
-    ]
+kept_lines text e l low = grind (arith, cases_lt, lines_at-line, nat_tests, lines_at-end)
 
 one_left_out : (text : List ℕ) (e l : ℕ)
     → l < e → e ≤ length text → lines_beyond e (lines_from text l) ≡ lines_beyond e (lines_from text (l + line_len (drop l text)))
 unfolding lines_beyond
-one_left_out text e l low within =
-    let first = lines_at-line text l (omega arith) in
-    let less : nat_lt l e ≡ true = grind (arith, nat_tests, low) in
-    rw (first, less) refl
+one_left_out text e l low within = grind (arith, lines_at-line, nat_tests)
 
 -- if no line ends between two offsets, the line that is read from either has the same end
 same_line_end : (text : List ℕ) (a e : ℕ) → a < e → e ≤ length text → e ≤ a + line_len (drop a text) → is_line_end (slice_index text (e - 1)) ≡ false
     → a + line_len (drop a text) ≡ e + line_len (drop e text)
 same_line_end text a e less within low no_end =
+    let size : length (drop a text) ≡ length text - a = length-drop a text in
     elim (cases_lt e (a + line_len (drop a text))) [
-      | inl inside ↦ (let k : ℕ = e - a in
-          let h = line_len-inside (drop a text) k (omega arith) in
-          let there : a + k ≡ e = omega arith in
-          let same : line_len (drop k (drop a text)) ≡ line_len (drop e text) = ap line_len (drop-drop k a text) ∙ ap (λ n. line_len (drop n text)) there in
-          omega arith)
-      | inr past ↦ (elim (cases_lt e (length text)) [
-        | inl more ↦ (let n : ℕ = (e - a) - 1 in
-            let size : length (drop a text) ≡ length text - a = length-drop a text in
-            let last = last_is_end (drop a text) n (omega arith) (omega arith) in
+      | inl inside ↦ same_end text a e (omega arith) inside
+      | inr past ↦ (elim (last_of_line (drop a text) (omega arith)) [
+        | inl last ↦ (let n : ℕ = line_len (drop a text) - 1 in
             let there : a + n ≡ e - 1 = omega arith in
-            let at : slice_index (drop a text) n ≡ slice_index text (e - 1) = get_or-drop a text n 0 ∙ ap (slice_index text) there in
-            absurd (true≢false (sym last ∙ ap is_line_end at ∙ no_end)))
-        | inr done ↦ (let none : line_len (drop e text) ≡ 0 = ap line_len (drop_all e text done) ∙ line_len-none in omega arith)
+            absurd (true≢false (sym last ∙ ap is_line_end (get_or-drop a text n 0 ∙ ap (slice_index text) there) ∙ no_end)))
+        | inr all ↦ (let none : line_len (drop e text) ≡ 0 = ap line_len (drop_all e text (omega arith)) ∙ line_len-none in omega arith)
       ])
     ]
 
 lines_on : (fuel : ℕ) (text : List ℕ) (a e : ℕ) → e ≤ a + fuel → a < e → e ≤ length text → is_line_end (slice_index text (e - 1)) ≡ false
-    → (lines_beyond e (lines_from text (a + line_len (drop a text))) ≡ lines_from text (e + line_len (drop e text)))
-    × (a + line_len (drop a text) ≤ e + line_len (drop e text))
+    → lines_beyond e (lines_from text (a + line_len (drop a text))) ≡ lines_from text (e + line_len (drop e text))
 lines_on zero text a e node_bound less within no_end = absurd (omega arith)
 lines_on (suc fuel) text a e node_bound less within no_end =
+    let l : ℕ = a + line_len (drop a text) in
     let some = line_len-within text a (omega arith) in
-    elim (cases_lt (a + line_len (drop a text)) e) [
-      | inl before ↦ (let l : ℕ = a + line_len (drop a text) in
-          let more = some.0 in
-          let r = lines_on fuel text l e (omega arith) before within no_end in
-          let low = r.1 in
-          (one_left_out text e l before within ∙ r.0, omega arith))
-      | inr past ↦ (let same = same_line_end text a e less within past no_end in
-          (kept_lines text e (a + line_len (drop a text)) past ∙ ap (lines_from text) same, omega arith))
+    elim (cases_lt l e) [
+      | inl before ↦ (let more = some.0 in one_left_out text e l before within ∙ lines_on fuel text l e (omega arith) before within no_end)
+      | inr past ↦ kept_lines text e l past ∙ ap (lines_from text) (same_line_end text a e less within past no_end)
     ]
 
 -- The lines after a definition that begins and ends at two offsets: those after the line in which it ends.
 pub lines_after_it : (text : List ℕ) (p : Place) (e : ℕ) → IsPlaceOf text p → offset p < e → e ≤ length text → is_line_end (slice_index text (e - 1)) ≡ false
     → (lines_beyond e (lines_from text (line_end p)) ≡ lines_from text (e + line_len (drop e text))) × (line_end p ≤ e + line_len (drop e text))
 lines_after_it text p e i less within no_end =
-    let ends : line_end p ≡ offset p + line_len (drop (offset p) text) = ap (λ bs. offset p + line_len bs) i.left in
-    let r = lines_on e text (offset p) e (omega arith) less within no_end in
-    let low = r.1 in
-    (ap (λ n. lines_beyond e (lines_from text n)) ends ∙ r.0, omega arith)
+    let ends : line_end p ≡ offset p + line_len (drop (offset p) text) = ap (λ bs. offset p + line_len bs) i.left in (
+      ap (λ n. lines_beyond e (lines_from text n)) ends ∙ lines_on e text (offset p) e (omega arith) less within no_end,
+      omega (arith, ends, line_after text (offset p) e (omega arith)),
+    )
 
 -- ---- the head of a footnote definition
 
@@ -109,29 +88,15 @@ ContinuesAt gfm text e at =
 
 continues_here : (gfm : Bool) (text : List ℕ) (e skip : ℕ) → IsCharBoundary text e → skip ≡ 0
     → after_head gfm text e ≡ (head_end text e, lines_from text (line_end (head_end text e))) → ContinuesAt gfm text e (e + skip)
-continues_here gfm text e skip b none h =
-    let same : e ≡ e + skip = omega arith in
-    subst (ContinuesAt gfm text e) same (h, omega arith, b)
+continues_here gfm text e skip b none h = grind arith
 
 continues_next : (text : List ℕ) (e n : ℕ) → IsUtf8 text → IsCharBoundary text e → blank_len (drop e text) ≡ Some n → e + n < length text
     → ContinuesAt false text e (e + n)
-continues_next text e n u b blank more =
-    let here : Place = head_end text e in
-    let there : Place = head_end text (e + n) in
-    let size : line_len (drop e text) ≡ n = line_len-blank (drop e text) n blank in
-    let stop : line_end here ≡ e + n = line_start_end text e ∙ ap (λ k. e + k) size in
-    let next : line_end there ≡ e + n + line_len (drop (e + n) text) = line_start_end text (e + n) in
-    let lines : lines_from text (line_end here) ≡ there ∷ lines_from text (line_end there) =
-    ap (lines_from text) stop ∙ lines_at-line text (e + n) more ∙ ap (λ k. there ∷ lines_from text k) (sym next) in (
-      rw (lines, ap is_some blank) refl,
-      omega arith,
-      subst (λ k. IsCharBoundary text (e + k)) size (line_end_boundary text e u b (omega arith)),
-    )
+continues_next text e n u b blank more = grind (arith, line_len-blank, line_start_end, lines_at-line, line_end_boundary)
 
 continues_by : (text : List ℕ) (e skip : ℕ) (o : Option ℕ) (t : Bool) → IsUtf8 text → IsCharBoundary text e → blank_len (drop e text) ≡ o
     → nat_lt (unwrap_or o 0) (length (drop e text)) ≡ t → skip ≡ (if t then unwrap_or o 0 else 0) → ContinuesAt false text e (e + skip)
-continues_by text e skip None t u b blank less is =
-    continues_here false text e skip b (grind (arith, is)) (after_some (head_end text e) _ (ap is_some blank))
+continues_by text e skip None t u b blank less is = grind (arith, continues_here, after_some)
 continues_by text e skip (Some n) true u b blank less is =
     let size : length (drop e text) ≡ length text - e = length-drop e text in
     let low : n < length (drop e text) = grind (arith, nat_tests, less) in
@@ -154,14 +119,7 @@ continues false text e skip u b is =
 colon_by : (bs : List ℕ) (n : ℕ) (text : List ℕ) (head : ℕ × List ℕ) (t : Bool) → begins colon (drop n (drop 2 bs)) ≡ t
     → (if t then Some (n + 3, text) else None) ≡ Some head → (3 ≤ head.0) × (head.0 ≤ length bs) × (slice_index bs (head.0 - 1) ≡ colon)
 colon_by bs n text head false h is = cc
-colon_by bs n text head true h is =
-    let same : (n + 3, text) ≡ head = cc in
-    let size : n + 3 ≡ head.0 = ap (λ (z : ℕ × List ℕ). z.0) same in
-    let rest : drop n (drop 2 bs) ≡ drop (2 + n) bs = drop-drop n 2 bs in
-    let f = first_byte colon bs (2 + n) (ap (begins colon) (sym rest) ∙ h) in
-    let low = f.0 in
-    let there : 2 + n ≡ head.0 - 1 = omega arith in
-    (omega arith, omega arith, ap (slice_index bs) (sym there) ∙ f.1)
+colon_by bs n text head true h is = grind (arith, first_byte)
 
 head_by : (bs : List ℕ) (label : Option (ℕ × List ℕ)) (head : ℕ × List ℕ) (t : Bool)
     → (if t then option_and_then (head_after (drop 2 bs)) label else None) ≡ Some head
@@ -241,20 +199,4 @@ no_mark around p h = grind (arith, h)
 pub head_at_mark : (text : List ℕ) (around : Context) (p : Place) (n : ℕ) → IsPlaceOf text (unindented p) → footnote_mark_at around.options p ≡ Some n
     → (offset (unindented p) ≡ n) × (footnote_head_at around p ≡ footnote_at false around (drop n text)) × ((unindented p).rest.left ≡ drop n text)
 unfolding footnote_head_at
-head_at_mark text around p n i h =
-    let at : offset (unindented p) ≡ n = grind (arith, h) in
-    let few : (has around.options footnotes && nat_lt (indent p.rest) 4) ≡ true = grind (arith, h) in
-    let left : (unindented p).rest.left ≡ drop n text = i.left ∙ ap (λ (k : ℕ). drop k text) at in
-    (at, rw (few, left) refl, left)
-
--- a later offset is not in an earlier line
-pub line_after : (text : List ℕ) (s e : ℕ) → s ≤ e → s + line_len (drop s text) ≤ e + line_len (drop e text)
-line_after text s e low =
-    let k : ℕ = e - s in
-    let at : s + k ≡ e = omega arith in
-    let same : drop k (drop s text) ≡ drop e text = drop-drop k s text ∙ ap (λ (n : ℕ). drop n text) at in
-    let size = ap line_len same in
-    elim (cases_lt k (line_len (drop s text))) [
-      | inl less ↦ (let inside = line_len-inside (drop s text) k less in omega arith)
-      | inr more ↦ omega arith
-    ]
+head_at_mark text around p n i h = grind arith

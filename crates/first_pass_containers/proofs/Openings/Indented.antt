@@ -1,12 +1,12 @@
 -- The markers of containers after the indentation of a line, and the container that begins there, from the results of the
 -- calls.
-use Rattle.std.proofs.Common.{◌≡◌, inl, ℕ, nat_lt, ◌&&◌, Bool, true, false, Some, None, refl, if◌then◌else◌, Option, MatchOption, IsSomeAnd, sym, ap, subst}
+use Rattle.std.proofs.Common.{◌≡◌, inl, ℕ, ◌&&◌, Bool, true, false, Some, None, refl, if◌then◌else◌, Option, MatchOption, IsSomeAnd, sym, ap, subst}
 use Rattle.std.proofs.Common.{◌∙◌, zero, suc, ◌≤◌, ◌<◌, ◌==◌, List, [], ◌∷◌, min, arith, option_map}
-use Rattle.first_pass_grammar.proofs.Common.{and-false, colon, left_bracket, has, footnotes, Options, begins, is_plain, begins_plain, Rest, indent}
-use Rattle.first_pass_grammar.proofs.Common.{after_columns, column_of, column_of_byte, next_column, past_quote, past_quote_byte, Place, offset}
-use Rattle.first_pass_grammar.proofs.Common.{begins_footnote_mark, definition_of, item_of, plain_begins, inert_indent, Context, prefix, at_rest}
-use Rattle.first_pass_grammar.proofs.Common.{footnote_head_at, all_taken, unindented, definition_marker_at, start_at, Start, definition_start, QuoteMarker}
-use Rattle.first_pass_grammar.proofs.Common.{ItemMarker, FootnoteMarker, DefinitionMarker, nat_tests, after-more, all_columns_up_to}
+use Rattle.first_pass_grammar.proofs.Common.{and-false, colon, left_bracket, Options, begins, is_plain, begins_plain, Rest, indent}
+use Rattle.first_pass_grammar.proofs.Common.{after_columns, column_of, column_of_byte, next_column, past_quote, past_quote_byte, Place}
+use Rattle.first_pass_grammar.proofs.Common.{begins_footnote_mark, definition_of, plain_begins, inert_indent, Context, prefix, at_rest}
+use Rattle.first_pass_grammar.proofs.Common.{footnote_head_at, all_taken, definition_marker_at, start_at, Start, definition_start, QuoteMarker}
+use Rattle.first_pass_grammar.proofs.Common.{ItemMarker, FootnoteMarker, DefinitionMarker, nat_tests, after-more, all_columns_up_to, Names, Tables, document}
 use Rattle.first_pass_scan.proofs.ColumnFacts.{no_column}
 use Rattle.first_pass_scan.proofs.PlainFacts.{begins_both}
 use Rattle.first_pass_grammar.specs.Kinds.{item_at}
@@ -14,7 +14,7 @@ use Rattle.first_pass_grammar.proofs.Sequences.OpenerFacts.{marker_where, start_
 use Rattle.first_pass_open.proofs.PlainLemmas.{inert_all, inert_item_at, inert_prefix}
 use Rattle.first_pass_open.specs.declared.source.Source.{Source}
 use Rattle.first_pass_lists.specs.declared.state.PassState.{PassState}
-use Rattle.first_pass_containers.specs.Positions.{InLine, LeafAt, ReadsTo}
+use Rattle.first_pass_containers.specs.Positions.{InLine, LeafAt, ReadsTo, ReadyOn}
 use Rattle.first_pass_containers.specs.Starts.{BeginsNoContainer, marker_of, OpenerMatches, StartMatches, IsIndented}
 use Rattle.first_pass_containers.proofs.Openings.HeadLemmas.{no_mark}
 use Rattle.first_pass_grammar.specs.declared.kind.Container.TheVariants.{BlockQuote}
@@ -32,35 +32,28 @@ quote_byte r s (b ∷ bs) h = grind (arith, h)
 
 quote_owed : (o : ℕ) (r s : Rest) → column_of o r ≡ Some s → (if o == 0 then past_quote_byte r r.left else None) ≡ None
 quote_owed zero r s h = quote_byte r s r.left h
-quote_owed (suc o) r s h =
-    let t : (suc o == 0) ≡ false = grind (arith, nat_tests) in ap (λ t. if t then past_quote_byte r r.left else None) t
+quote_owed (suc o) r s h = grind (arith, nat_tests)
 
 -- after a number of columns, if there are more
-left_by : (r : Rest) (o : Option Rest) → 0 < indent r → next_column r ≡ o → past_quote r ≡ None
-left_by r None more e = absurd (omega (arith, no_column r e))
-left_by r (Some s) more e = quote_owed r.owed r s e
-
-more_by : (k : ℕ) (r : Rest) (o : Option Rest) → suc k < indent r → next_column r ≡ o
-    → ((s : Rest) → k < indent s → past_quote (after_columns k s) ≡ None) → past_quote (after_columns (suc k) r) ≡ None
-more_by k r None more e further = absurd (omega (arith, no_column r e))
-more_by k r (Some s) more e further = ap past_quote (after-more (suc k) k r s refl e) ∙ further s (omega (arith, indent-some r s e))
-
 columns_left : (k : ℕ) (r : Rest) → k < indent r → past_quote (after_columns k r) ≡ None
-columns_left zero r more = left_by r (next_column r) more refl
-columns_left (suc k) r more = more_by k r (next_column r) more refl (columns_left k)
+columns_left zero r more = elim (next_column r) as (λ o. next_column r ≡ o → past_quote r ≡ None) [
+  | None ↦ λ e. absurd (omega (arith, no_column r e))
+  | Some s ↦ λ e. quote_owed r.owed r s e
+] refl
+columns_left (suc k) r more = elim (next_column r) as (λ o. next_column r ≡ o → past_quote (after_columns (suc k) r) ≡ None) [
+  | None ↦ λ e. absurd (omega (arith, no_column r e))
+  | Some s ↦ λ e. ap past_quote (after-more (suc k) k r s refl e) ∙ columns_left k s (omega (arith, indent-some r s e))
+] refl
 
 -- no container begins after four columns or more
 pub no_item : (r : Rest) → 4 ≤ indent r → item_at r ≡ None
 unfolding item_at
-no_item r far =
-    let t : nat_lt (indent r) 4 ≡ false = grind (arith, nat_tests) in ap (λ t. if t then item_of (indent r) (all_taken r) else None) t
+no_item r far = grind (arith, nat_tests)
 
 pub no_definition : (may : Bool) (p : Place) → 4 ≤ indent p.rest → marker_where may p ≡ None
 unfolding definition_marker_at
 no_definition false p far = refl
-no_definition true p far =
-    let t : nat_lt (indent p.rest) 4 ≡ false = grind (arith, nat_tests) in
-    ap (λ t. if t then definition_of (indent p.rest) (all_taken p.rest) else None) t
+no_definition true p far = grind (arith, nat_tests)
 
 pub no_quote_prefix : (r : Rest) → 4 ≤ indent r → prefix (BlockQuote None) r ≡ None
 unfolding prefix
@@ -71,13 +64,7 @@ pub is_far : (r first : Rest) (n : ℕ) → first ≡ r → n ≡ min 4 (indent 
 is_far r first n same columns far = let e : indent first ≡ indent r = ap indent same in omega arith
 
 pub is_indented : (r first mark : Rest) (n : ℕ) → first ≡ r → n ≡ min 4 (indent first) → mark ≡ all_taken first → n < 4 → IsIndented r mark n
-is_indented r first mark n same columns is less =
-    let e : indent first ≡ indent r = ap indent same in
-    record {
-      few = omega arith;
-      columns_are = omega arith;
-      mark_is = is ∙ ap all_taken same;
-    }
+is_indented r first mark n same columns is less = grind arith
 
 -- the marker of a block quote is at the end of the indentation
 pub quote_mark : (r mark : Rest) (n : ℕ) → IsIndented r mark n → after_columns 3 r ≡ mark
@@ -144,15 +131,12 @@ marker_absent f (Some marker) found old new e h = (let z : None ≡ Some (f mark
 pub quote_here : (old mid new : Rest) (width : Option ℕ) (at : ℕ) → mid ≡ old → width ≡ Some at
     → MatchOption (prefix (BlockQuote None) mid) ((width ≡ None) × (new ≡ mid)) (λ next. (width ≡ Some (after_columns 3 mid).taken) × (new ≡ next))
     → (prefix (BlockQuote None) old ≡ Some new) × (at ≡ (after_columns 3 old).taken)
-quote_here old mid new width at same taken says =
-    let t = quote_is_taken (prefix (BlockQuote None) mid) width _ at mid new taken says in
-    (ap (prefix (BlockQuote None)) (sym same) ∙ t.0, t.1 ∙ ap (λ (r : Rest). (after_columns 3 r).taken) same)
+quote_here old mid new width at same taken says = grind (arith, quote_is_taken)
 
 -- if a definition begins, one may begin
 none_begins : (options : Options) (p : Place) (marker : ℕ × Rest) (q : Option Rest) → prefix (BlockQuote None) p.rest ≡ q → item_at p.rest ≡ None
     → start_at options false p ≡ Some (definition_start p marker) → ⊥
-none_begins options p marker None quote item begins =
-    (let e : None ≡ Some (definition_start p marker) = sym (start_none options false p item refl quote) ∙ begins in cc)
+none_begins options p marker None quote item begins = grind (arith, start_none)
 none_begins options p marker (Some r) quote item begins =
     (let e = ap (option_map (λ (s : Start). s.head.opener)) (sym (start_quote options false p r item refl quote) ∙ begins) in cc)
 
@@ -166,12 +150,7 @@ may_if options false p marker item begins = absurd (none_begins options p marker
 -- no container begins with a plain byte
 pub plain_begins_none : (r : Rest) → r.owed ≡ 0 → begins_plain r.left ≡ true → BeginsNoContainer r
 unfolding is_plain
-plain_begins_none r owed plain = record {
-  owed = owed;
-  inert = begins_both r.left plain;
-  colon = plain_begins colon r.left plain refl;
-  bracket = plain_begins left_bracket r.left plain refl;
-}
+plain_begins_none r owed plain = grind (arith, begins_both, plain_begins)
 
 -- no footnote definition begins without a `[`
 no_bracket : (r q : Rest) (t u : Bool) (n : ℕ) → q ≡ r → begins left_bracket r.left ≡ false
@@ -179,9 +158,7 @@ no_bracket : (r q : Rest) (t u : Bool) (n : ℕ) → q ≡ r → begins left_bra
 no_bracket r q t u n same h = rw (same, h, and-false u, and-false t) refl
 
 pub no_footnote : (around : Context) (p : Place) → BeginsNoContainer p.rest → footnote_head_at around p ≡ None
-no_footnote around p h =
-    no_mark around p (no_bracket p.rest (all_taken p.rest) (has around.options footnotes) (nat_lt (indent p.rest) 4) (offset (unindented p))
-    (inert_all p.rest h.owed h.inert) h.bracket)
+no_footnote around p h = grind (arith, no_mark, no_bracket, inert_all)
 
 -- and no definition without a `:`
 no_definition_here : (r : Rest) → BeginsNoContainer r → definition_marker_at r ≡ None
@@ -193,15 +170,15 @@ no_marker true p h = no_definition_here p.rest h
 no_marker false p h = refl
 
 pub none_starts : (options : Options) (may : Bool) (p : Place) → BeginsNoContainer p.rest → start_at options may p ≡ None
-none_starts options may p h =
-    start_none options may p (inert_item_at p.rest h.owed h.inert) (no_marker may p h) (inert_prefix None p.rest h.owed h.inert)
+none_starts options may p h = grind (arith, start_none, inert_item_at, no_marker, inert_prefix)
+
+-- a leaf block is at a place if a ready state is ready for one
+pub leaf_there : (source : Source) (r : PassState) (p : Place) (line : ℕ) → ((names : Names) (defined : Tables)
+    → ReadyOn (document source.text.now source.options names) defined r (InLine p)
+    → ReadyOn (document source.text.now source.options names) defined r (LeafAt p)) → ReadsTo source line r r (InLine p) (LeafAt p)
+leaf_there source r p line ready =
+    record { ready = ready; order = λ h. h; node_bound = λ first h. h; named = λ names h. h; tables = λ names h. h }
 
 -- so a leaf block is there
 pub only_leaf : (source : Source) (r : PassState) (p : Place) (line : ℕ) → BeginsNoContainer p.rest → ReadsTo source line r r (InLine p) (LeafAt p)
-only_leaf source r p line h = record {
-  ready = λ names defined ready. inl (no_footnote _ p h, none_starts _ _ p h, ready);
-  order = λ ordered. ordered;
-  node_bound = λ first grows. grows;
-  named = λ names named. named;
-  tables = λ names tables. tables;
-}
+only_leaf source r p line h = leaf_there source r p line (λ names defined ready. inl (no_footnote _ p h, none_starts _ _ p h, ready))

@@ -1,16 +1,15 @@
 -- A container is opened at a place in a line: a block quote, a list item in its list, or a definition; also one whose line
 -- ends after its markers.
-use Rattle.std.proofs.Common.{◌≡◌, ℕ, ◌+◌, Bool, true, false, List, [], ◌∷◌, ◌++◌, length, map, Option, Some, None, refl, sym, ap, subst, ◌∙◌, arith}
-use Rattle.std.proofs.Common.{if◌then◌else◌, length-append, suc, ◌||◌, slice_get, MatchOption, append_assoc, option_map, option_and_then}
+use Rattle.std.proofs.Common.{◌≡◌, ℕ, ◌+◌, Bool, true, false, List, ◌∷◌, ◌++◌, length, map, Option, Some, None, refl, sym, ap, subst, ◌∙◌, arith}
+use Rattle.std.proofs.Common.{if◌then◌else◌, length-append, suc, ◌||◌, slice_get, MatchOption, append_assoc, option_map, option_and_then, []}
 use Rattle.first_pass_grammar.proofs.Common.{Item, ItemBody, DefinitionListDefinition, DefinitionList, Options, TreeIndex, Forest, modify, with_body_at}
-use Rattle.first_pass_grammar.proofs.Common.{body_at, appended, modify-at, Rest, Place, offset, start_of, line_end, is_paragraph_body, at_rest}
-use Rattle.first_pass_grammar.proofs.Common.{is_blank_rest, Document, around, item_start, definition_head, definition_start, after_task, quote_begun, Start}
-use Rattle.first_pass_grammar.proofs.Common.{start_at, Continues, Blanks, after_marker, only_task, next_is_blank, opening_of, OpensNode, Opens, Level}
-use Rattle.first_pass_grammar.proofs.Common.{Inside, AtPlace, TextOf, Opening, may_define, after_tag, Tables, node_of, list_flags, OtherClosed, AreBelow}
-use Rattle.first_pass_grammar.proofs.Common.{Closed, DefinitionClosed, lines_from, Frame, InContainer, InList, containers_of, IsPlain, nat_tests, or-false}
-use Rattle.first_pass_grammar.proofs.Common.{ListFlags, BlockQuoteKind, body-other, footnote_head_at, is_task_marker}
-use Rattle.first_pass_items.specs.declared.item.ItemBody.TheVariants.{ListItem as ListItemBody, BlockQuote as BlockQuoteBody}
-use Rattle.first_pass_items.specs.declared.item.ItemBody.TheVariants.{List as ListBody}
+use Rattle.first_pass_grammar.proofs.Common.{body_at, appended, modify-at, Rest, Place, offset, start_of, line_end, is_paragraph_body, at_rest, is_blank_rest}
+use Rattle.first_pass_grammar.proofs.Common.{Document, around, item_start, definition_head, definition_start, after_task, quote_begun, Start, start_at}
+use Rattle.first_pass_grammar.proofs.Common.{Continues, after_marker, only_task, next_is_blank, opening_of, OpensNode, Opens, Inside, AtPlace, TextOf}
+use Rattle.first_pass_grammar.proofs.Common.{Opening, may_define, after_tag, Tables, node_of, list_flags, OtherClosed, AreBelow, Closed, DefinitionClosed}
+use Rattle.first_pass_grammar.proofs.Common.{lines_from, Frame, InContainer, InList, containers_of, IsPlain, nat_tests, or-false, ListFlags, BlockQuoteKind}
+use Rattle.first_pass_grammar.proofs.Common.{body-other, footnote_head_at, is_task_marker, Blanks}
+use Rattle.first_pass_items.specs.declared.item.ItemBody.TheVariants.{ListItem as ListItemBody, BlockQuote as BlockQuoteBody, List as ListBody}
 use Rattle.first_pass_grammar.specs.declared.kind.Container.{Container}
 use Rattle.first_pass_grammar.specs.declared.kind.Container.TheVariants.{ListItem, Definition, BlockQuote}
 use Rattle.first_pass_grammar.specs.Kinds.{quote_start}
@@ -21,18 +20,18 @@ use Rattle.first_pass_completion.proofs.TitleNodes.{reflagged}
 use Rattle.first_pass_grammar.proofs.Sequences.Finishes.{CompletesAt}
 use Rattle.first_pass_grammar.proofs.Sequences.Tightening.{modify-append}
 use Rattle.first_pass_open.specs.OpenBlock.{with_child}
-use Rattle.first_pass_open.specs.Path.{container_of, with_container, path_in, path_of}
+use Rattle.first_pass_open.specs.Path.{path_in, path_of, container_of, with_container}
 use Rattle.first_pass_open.proofs.PathLemmas.{get_front}
-use Rattle.first_pass_lists.specs.Closing.{top_body, is_list, may_begin_definition, list_continued, list_kept, with_tree}
-use Rattle.first_pass_lists.specs.Closing.{definitions_opened, definition_begun, loosened_at, is_list_of, empty_item_closed_by}
-use Rattle.first_pass_lists.specs.Closing.{empty_item_closed, list_finished, loosened_top, begun}
+use Rattle.first_pass_lists.specs.Closing.{top_body, is_list, may_begin_definition, list_continued, list_kept, with_tree, definitions_opened}
+use Rattle.first_pass_lists.specs.Closing.{definition_begun, loosened_at, is_list_of, empty_item_closed_by, empty_item_closed, list_finished, loosened_top}
+use Rattle.first_pass_lists.specs.Closing.{begun, state_with}
 use Rattle.first_pass_lists.specs.declared.state.PassState.{PassState}
-use Rattle.first_pass_ready.specs.State.{closed_in, item_columns, body_without_indent, top_without_indent, ReadyAt, ReadyBeforeLine, ReadyInItem, ReadyEmpty}
-use Rattle.first_pass_ready.specs.State.{Ready, frame_at, frame_of, AreOpen}
+use Rattle.first_pass_ready.specs.State.{closed_in, item_columns, top_without_indent, ReadyAt, ReadyBeforeLine, ReadyEmpty, Ready}
+use Rattle.first_pass_ready.specs.State.{frame_at, frame_of, AreOpen}
 use Rattle.first_pass_ready.proofs.ClosedIn.{level_of, closed_at_body, no_paragraph, open_level, top_in}
 use Rattle.first_pass_ready.proofs.ItemBodies.{item_body, item_container, item_columns_of, item_kind, item_path, without_indent_is}
-use Rattle.first_pass_ready.proofs.OpenLemmas.{open_below, frame-append, get_end, open_path, HasFrame, has_frame}
-use Rattle.first_pass_ready.proofs.PopLemmas.{ready_as}
+use Rattle.first_pass_ready.proofs.OpenLemmas.{open_below, frame-append, get_end, open_path, HasFrame}
+use Rattle.first_pass_ready.proofs.PopLemmas.{ready_as, Innermost, innermost_of}
 use Rattle.first_pass_ready.proofs.EnterLemmas.{path_below}
 use Rattle.first_pass_containers.proofs.OrderSteps.{marked_open}
 use Rattle.first_pass_ready.proofs.BegunLemmas.{depth_of, with_open, top_opened, IsBegun, plain_open, opened_too, HasBegun, begun_ready, opens_start}
@@ -54,44 +53,6 @@ quote_away (Some (ListBody flags list number)) closed p kind following inside = 
 quote_away (Some (DefinitionList flags)) (DefinitionClosed e blanks) p kind following inside = (refl, refl)
 quote_away b closed p kind following inside = tt
 
--- the opening there, over the frames
-finished_opens : (d : Document) (defined : Tables) (old new : PassState) (p : Place) (lines : List Place) (opening : Opening)
-    (done : Finished d defined old new p lines opening)
-    → Opens d (lvl done.ready.0.frames (tail (closed_in new.tree) false)) p lines opening
-finished_opens d defined old new p lines opening done =
-    subst (λ z. Opens d z p lines opening) (open_level d.options new.tree done.ready.0.frames false done.ready.0.are_open) done.opens
-
-finished_path : (d : Document) (defined : Tables) (old new : PassState) (p : Place) (lines : List Place) (opening : Opening)
-    (done : Finished d defined old new p lines opening) → containers_of done.ready.0.frames ≡ path_of d.options old.tree
-finished_path d defined old new p lines opening done =
-    sym (open_path d.options new.tree.nodes new.tree.spine done.ready.0.frames done.ready.0.are_open) ∙ done.path
-
--- a block quote of a kind is open, for any place where blocks continue in it
-pub quote_is_open : (d : Document) (defined : Tables) (r : PassState) (p : Place) (lines following : List Place) (kind : Option BlockQuoteKind)
-    (inside : Continues)
-    → MayBegin d defined r p lines → Opens d (level_of d.options r.tree r.blank) p lines (OpensNode (quote_head p kind) inside following)
-    → HasBegun d defined r (begun (quote_start p) (BlockQuoteBody kind) (list_finished p.line r)) (BlockQuote kind) inside following
-quote_is_open d defined r p lines following kind inside may opens =
-    let opening : Opening = OpensNode (quote_head p kind) inside following in
-    let q : PassState = list_finished p.line r in
-    let begins : OpensOther d (path_of d.options r.tree) p opening =
-    record { stays = opens_stays d (level_of d.options r.tree r.blank) p lines opening refl opens; block = tt; other = refl } in
-    let done = ready_finished d defined r p lines p.line opening may begins opens
-    (quote_away (top_body r.tree) (closed_in r.tree) p kind following inside) in
-    let f : Forest Item = q.tree in
-    let now = done.ready.0 in
-    let k = completes-quote d (open_nodes defined now.frames f.nodes (map (λ (i : TreeIndex). i.0) f.spine)) (closed_in f) kind (quote_start p) p.line
-    (record { place = p; lines = lines; inside = inside; following = following; opens = finished_opens d defined r q p lines opening done })
-    done.ready.1 now.completes in
-    record {
-      is_begun = subst (IsBegun d defined (with_open f (node_of (quote_start p) 0 (BlockQuoteBody kind))) (BlockQuote kind) inside following)
-          (finished_path d defined r q p lines opening done)
-          (begun_ready d defined f (node_of (quote_start p) 0 (BlockQuoteBody kind)) (BlockQuote kind) now.frames inside following refl refl now.are_open
-          k);
-      blank = done.blank;
-      none = done.none;
-    }
-
 -- the start of a container, if one may begin
 abbrev pub begins_at : Document → PassState → Place → Option Start
 begins_at d r p = start_at d.options (may_define d (level_of d.options r.tree r.blank)) p
@@ -102,39 +63,6 @@ pub record ContainerBegins (d : Document) (defined : Tables) (r : PassState) (p 
   pub bare : footnote_head_at (around d (path_of d.options r.tree)) p ≡ None
   pub begins : begins_at d r p ≡ Some s
 
--- its start opens it
-pub begins_open : (d : Document) (defined : Tables) (r : PassState) (p : Place) (lines : List Place) (s : Start)
-    → ContainerBegins d defined r p lines s → Opens d (level_of d.options r.tree r.blank) p lines (opening_of d (path_of d.options r.tree) p lines s)
-begins_open d defined r p lines s b = opens_start d (level_of d.options r.tree r.blank) p lines s b.bare b.begins
-
--- a block quote without a tag
-pub ready_quote : (d : Document) (defined : Tables) (r : PassState) (p : Place) (lines : List Place) (inside : Rest)
-    → ContainerBegins d defined r p lines (quote_begun p None inside)
-    → (let q : PassState = begun (quote_start p) (BlockQuoteBody None) (list_finished p.line r) in
-    ReadyAt d defined q.tree q.blank (Inside (at_rest p inside)) lines)
-ready_quote d defined r p lines inside b =
-    let q : PassState = begun (quote_start p) (BlockQuoteBody None) (list_finished p.line r) in
-    let opens = begins_open d defined r p lines (quote_begun p None inside) b in
-    let now = quote_is_open d defined r p lines lines None (Inside (at_rest p inside)) b.may opens in
-    subst (λ t. ReadyAt d defined q.tree t (Inside (at_rest p inside)) lines) (sym now.blank) now.is_begun.ready
-
--- a block quote with one
-pub ready_tagged : (d : Document) (defined : Tables) (r : PassState) (p : Place) (lines : List Place) (inside : Rest) (kind : BlockQuoteKind)
-    → ContainerBegins d defined r p lines (quote_begun p (Some kind) inside)
-    → ReadyTagged d defined (begun (quote_start p) (BlockQuoteBody (Some kind)) (list_finished p.line r)) lines
-ready_tagged d defined r p lines inside kind b =
-    let q : PassState = begun (quote_start p) (BlockQuoteBody (Some kind)) (list_finished p.line r) in
-    let path : List Container = path_of d.options r.tree in
-    let from : Continues × List Place = after_tag (around d (BlockQuote (Some kind) ∷ path)) lines in
-    let opens = begins_open d defined r p lines (quote_begun p (Some kind) inside) b in
-    let now = quote_is_open d defined r p lines from.1 (Some kind) from.0 b.may opens in
-    record {
-      kind = Some kind;
-      quote = top_opened (list_finished p.line r).tree (node_of (quote_start p) 0 (BlockQuoteBody (Some kind)));
-      blank = now.blank;
-      ready = rw now.is_begun.path_is now.is_begun.ready;
-    }
-
 -- the opening of an item opens a block. It ends a list of another byte, or a definition list, where the item starts.
 item_away : (b : Option ItemBody) (closed : Closed) (p : Place) (byte number columns : ℕ) (inside : Continues) (lines : List Place)
     → is_list_of byte b ≡ false → EndsListAt (offset p) b closed (OpensNode (item_head p byte number columns) inside lines)
@@ -142,156 +70,10 @@ item_away (Some (ListBody flags list n)) closed p byte number columns inside lin
 item_away (Some (DefinitionList flags)) (DefinitionClosed e blanks) p byte number columns inside lines other = (refl, refl)
 item_away b closed p byte number columns inside lines other = tt
 
--- The innermost open node is a list of items with this byte.
-record InnermostList (f : Forest Item) (byte : ℕ) : Type 0 where
-  list : TreeIndex
-  rest : List TreeIndex
-  flags : ListFlags
-  number : ℕ
-  spine : f.spine ≡ list ∷ rest
-  body : body_at f.nodes list.0 ≡ Some (ListBody flags byte number)
-
 list_frame : (options : Options) (flags : ListFlags) (byte number : ℕ) (frame : Frame) → HasFrame options (Some (ListBody flags byte number)) frame
     → (loose : Bool) × (frame ≡ InList byte loose)
 list_frame options flags byte number (InList b loose) h = let list = h.1 in (loose, cc)
 list_frame options flags byte number frame h = cc
-
-module _ (d : Document) (defined : Tables) (r : PassState) (p : Place) (lines : List Place) (byte number columns : ℕ) (inside : Continues)
-    (may : MayBegin d defined r p lines)
-    (opens : Opens d (level_of d.options r.tree r.blank) p lines (OpensNode (item_head p byte number columns) inside lines)) where
-  abbrev ItemIsOpen : PassState → Type 0
-  ItemIsOpen q = HasBegun d defined r q (ListItem columns) inside lines
-
-  abbrev item : Item
-  item = node_of (offset p) 0 (ListItemBody columns)
-
-  abbrev opening : Opening
-  opening = OpensNode (item_head p byte number columns) inside lines
-
-  -- in a list that begins with the item
-  in_new_list : is_list_of byte (top_body r.tree) ≡ false
-      → ItemIsOpen (begun (offset p) (ListItemBody columns) (begun (offset p) (ListBody (list_flags true) byte number) (list_finished (offset p) r)))
-  in_new_list other =
-      let q : PassState = list_finished (offset p) r in
-      let begins : OpensOther d (path_of d.options r.tree) p opening =
-      record { stays = opens_stays d (level_of d.options r.tree r.blank) p lines opening refl opens; block = tt; other = refl } in
-      let done = ready_finished d defined r p lines (offset p) opening may begins opens
-      (item_away (top_body r.tree) (closed_in r.tree) p byte number columns inside lines other) in
-      let f : Forest Item = q.tree in
-      let frames : List Frame = done.ready.0.frames in
-      let os : List ℕ = map (λ (i : TreeIndex). i.0) f.spine in
-      let y : Item = node_of (offset p) 0 (ListBody (list_flags true) byte number) in
-      let g : Forest Item = with_open f y in
-      let k = completes-list d (open_nodes defined frames f.nodes os) (closed_in f) (list_flags true)
-      (record { byte = byte; number = number; columns = columns; start = offset p; line = p.line })
-      (record { place = p; lines = lines; inside = inside; following = lines; opens = finished_opens d defined r q p lines opening done })
-      done.ready.1 done.ready.0.completes in
-      let n : length g.nodes ≡ suc (length f.nodes) = (let l = length-append f.nodes ((length f.spine + 1, y) ∷ []) in omega arith) in
-      let deep : suc (length os) ≡ length f.spine + 1 = depth_of f.spine in
-      let nodes : f.nodes ++ (suc (length os), y) ∷ (suc (suc (length os)), item) ∷ [] ≡ g.nodes ++ (suc (suc (length os)), item) ∷ [] =
-      sym (append_assoc f.nodes ((suc (length os), y) ∷ []) ((suc (suc (length os)), item) ∷ []))
-      ∙ ap (λ z. (f.nodes ++ (z, y) ∷ []) ++ (suc (suc (length os)), item) ∷ []) deep in
-      let now : List Frame = InContainer (ListItem columns) ∷ InList byte false ∷ frames in
-      let list_open : AreOpen d.options g.nodes g.spine (InList byte false ∷ frames) =
-      opened_too d.options f.nodes (length f.spine + 1) y f.spine frames (InList byte false) refl refl done.ready.0.completes.below done.ready.0.are_open in
-      record {
-        is_begun = subst (IsBegun d defined (with_open g item) (ListItem columns) inside lines) (finished_path d defined r q p lines opening done)
-            (begun_ready d defined g item (ListItem columns) (InList byte false ∷ frames) inside lines refl refl list_open
-            (subst (λ z. CompletesAt d defined fresh now (g.nodes ++ (suc (suc (length os)), item) ∷ []) (z ∷ length f.nodes ∷ os) inside lines) (sym n)
-            (subst (λ z. CompletesAt d defined fresh now z (suc (length f.nodes) ∷ length f.nodes ∷ os) inside lines) nodes k)));
-        blank = done.blank;
-        none = done.none;
-      }
-
-  -- the list that continues, loose if a blank line is before the item
-  kept_by : (run : Bool) → r.blank ≡ run → (ix : TreeIndex) (rest : List TreeIndex) → r.tree.spine ≡ ix ∷ rest
-      → (let q : PassState = if run then record r { tree = loosened_top r.tree r.tree.spine; blank = false } else r in
-      (q.tree ≡ (if run then loosened_at r.tree ix else r.tree)) × (q.blank ≡ false) × (q.begin_list_item ≡ None))
-  kept_by true is ix rest spine = (ap (loosened_top r.tree) spine, refl, may.none)
-  kept_by false is ix rest spine = (refl, is, may.none)
-
-  goes_on_as : (run : Bool) (l : InnermostList r.tree byte) (loose : Bool) (frames : List Frame)
-      → AreOpen d.options r.tree.nodes (l.list ∷ l.rest) (InList byte loose ∷ frames)
-      → CompletesAt d defined (tail (closed_in r.tree) run) (InList byte loose ∷ frames) r.tree.nodes (l.list.0 ∷ map (λ i. i.0) l.rest) (Inside p) lines
-      → (let f : Forest Item = if run then loosened_at r.tree l.list else r.tree in
-      AreOpen d.options f.nodes (l.list ∷ l.rest) (InList byte (loose || run) ∷ frames)
-      × CompletesAt d defined (tail (closed_in r.tree) run) (InList byte loose ∷ frames) f.nodes (l.list.0 ∷ map (λ i. i.0) l.rest) (Inside p) lines
-      × (f.spine ≡ l.list ∷ l.rest))
-  unfolding reflagged
-  goes_on_as true l loose frames o k =
-      let ix : TreeIndex = l.list in
-      let body : ItemBody = ListBody l.flags byte l.number in
-      let nodes = loose_is r.tree ix body l.flags l.body refl in
-      let outer : AreOpen d.options (loosened_at r.tree ix).nodes l.rest frames = open_below d.options r.tree.nodes _ ix.0 l.rest frames
-      (λ i h. ap (λ z. frame_at d.options z i) nodes ∙ ap (option_and_then (frame_of d.options)) (body-other r.tree.nodes ix.0 i _ h)) k.below.1 o.1 in (
-        (loose_frame d.options r.tree ix body l.flags (InList byte loose) l.body refl o.0, outer, refl),
-        rw nodes (completes-reflag_list d (open_nodes defined frames r.tree.nodes (map (λ i. i.0) l.rest)) (tail (closed_in r.tree) true) byte loose ix.0
-            (Inside p) lines k),
-        loosened_spine r.tree ix (body_at r.tree.nodes ix.0) ∙ l.spine,
-      )
-  goes_on_as false l loose frames o k = ((o.0 ∙ ap (λ z. Some (InList byte z)) (sym (or-false loose)), o.1, refl), k, l.spine)
-
-  item_by : (run : Bool) (l : InnermostList r.tree byte) (frames : List Frame) → AreOpen d.options r.tree.nodes (l.list ∷ l.rest) frames
-      → Opens d (lvl frames (tail (closed_in r.tree) run)) p lines opening
-      → CompletesAt d defined (tail (closed_in r.tree) run) frames r.tree.nodes (l.list.0 ∷ map (λ i. i.0) l.rest) (Inside p) lines
-      → (let f : Forest Item = if run then loosened_at r.tree l.list else r.tree in
-      IsBegun d defined (with_open f item) (ListItem columns) inside lines (path_of d.options r.tree))
-  item_by run l [] o opens' k = absurd o
-  item_by run l (frame ∷ frames) o opens' k =
-      let f : Forest Item = if run then loosened_at r.tree l.list else r.tree in
-      let t = tail (closed_in r.tree) run in
-      let (loose, is) = list_frame d.options l.flags byte l.number frame
-      (subst (λ z. HasFrame d.options z frame) l.body (has_frame d.options (body_at r.tree.nodes l.list.0) frame o.0)) in
-      let o' : AreOpen d.options r.tree.nodes (l.list ∷ l.rest) (InList byte loose ∷ frames) = rw is at o in
-      let path : containers_of frames ≡ path_of d.options r.tree =
-      sym (ap (path_in d.options r.tree.nodes) l.spine ∙ open_path d.options r.tree.nodes (l.list ∷ l.rest) (InList byte loose ∷ frames) o') in
-      let now = goes_on_as run l loose frames o' (rw is at k) in
-      let done = completes-item d (open_nodes defined frames f.nodes (map (λ (i : TreeIndex). i.0) l.rest)) (closed_in r.tree) run loose l.list.0
-      (record { byte = byte; number = number; columns = columns; start = offset p; line = p.line }) (record {
-        place = p;
-        lines = lines;
-        inside = inside;
-        following = lines;
-        opens = subst (λ z. Opens d (lvl (z ∷ frames) t) p lines opening) is opens';
-      }) now.1 in
-      let frames' : List Frame = InList byte (loose || run) ∷ frames in
-      subst (IsBegun d defined (with_open f item) (ListItem columns) inside lines) path
-      (begun_ready d defined f item (ListItem columns) frames' inside lines refl refl (rw now.2 now.0) (rw now.2 done))
-
-  in_list_by : (s : List TreeIndex) (b : Option ItemBody)
-      → r.tree.spine ≡ s → option_and_then (λ (ix : TreeIndex). body_at r.tree.nodes ix.0) (slice_get s 0) ≡ b → is_list_of byte b ≡ true
-      → ItemIsOpen (begun (offset p) (ListItemBody columns) (list_kept r))
-  in_list_by s None spine is same = cc
-  in_list_by [] (Some b) spine is same = cc
-  in_list_by (ix ∷ rest) (Some (ListBody flags list n)) spine is same =
-      let kept = kept_by r.blank refl ix rest spine in
-      let equal : list ≡ byte = grind (arith, nat_tests, same) in
-      let ready = may.ready in
-      let opens' = subst (λ z. Opens d z p lines opening) (open_level d.options r.tree ready.frames r.blank ready.are_open) opens in
-      let l : InnermostList r.tree byte = record { list = ix; rest = rest; flags = flags; number = n; spine = spine; body = rw equal at is } in
-      let done = item_by r.blank l ready.frames
-      (subst (λ z. AreOpen d.options r.tree.nodes z ready.frames) spine ready.are_open) opens'
-      (subst (λ z. CompletesAt d defined (tail (closed_in r.tree) r.blank) ready.frames r.tree.nodes (map (λ (i : TreeIndex). i.0) z) (Inside p) lines) spine
-      ready.completes) in
-      record {
-        is_begun = rw kept.0 done;
-        blank = kept.1;
-        none = kept.2;
-      }
-  in_list_by (ix ∷ rest) (Some b) spine is same = cc
-
-  item_is_open_by : (t : Bool) → is_list_of byte (top_body r.tree) ≡ t
-      → ItemIsOpen (begun (offset p) (ListItemBody columns)
-      (if t then list_kept r else begun (offset p) (ListBody (list_flags true) byte number) (list_finished (offset p) r)))
-  item_is_open_by true is = in_list_by r.tree.spine (top_body r.tree) refl refl is
-  item_is_open_by false is = in_new_list is
-
-  -- an item is open, in the list that continues or in a new one
-  pub item_is_open : ItemIsOpen (item_opened (offset p) byte number columns r)
-  unfolding list_continued empty_item_closed
-  item_is_open =
-      let same : empty_item_closed_by r r.begin_list_item ≡ r = ap (empty_item_closed_by r) may.none in
-      rw same (item_is_open_by (is_list_of byte (top_body r.tree)) refl)
 
 -- the marker of a list item that was read
 pub item_found : (o : Option ((ℕ × ℕ × ℕ) × Rest)) (found : Option ListMarker) (m : ListMarker) (old new : Rest) → found ≡ Some m
@@ -303,46 +85,6 @@ item_found (Some (item, rest)) found m old new e h = grind (arith, e, h)
 abbrev pub past_task : Option Item → Place → Continues
 past_task None p = Inside p
 past_task (Some marker) p = AtPlace p (TextOf marker)
-
--- the opening from the markers
-inside_by : (d : Document) (path : List Container) (p : Place) (lines : List Place) (byte number columns : ℕ) (marker : Option Item) (rest : Rest)
-    → is_blank_rest rest ≡ false
-    → opening_of d path p lines (item_start p (byte, number, columns) (marker, rest))
-    ≡ OpensNode (item_head p byte number columns) (past_task marker (at_rest p rest)) lines
-inside_by d path p lines byte number columns marker rest h = grind (arith, h)
-
--- an item with something after its markers
-pub ready_item : (d : Document) (defined : Tables) (r : PassState) (p : Place) (lines : List Place) (byte number columns : ℕ) (marker : Option Item)
-    (rest : Rest) → ContainerBegins d defined r p lines (item_start p (byte, number, columns) (marker, rest)) → is_blank_rest rest ≡ false
-    → (let q : PassState = item_opened (offset p) byte number columns r in
-    (q.blank ≡ false) × (now : ReadyAt d defined q.tree false (past_task marker (at_rest p rest)) lines) × IsPlain now.frames)
-ready_item d defined r p lines byte number columns marker rest b some =
-    let from : Continues = past_task marker (at_rest p rest) in
-    let l : Level = level_of d.options r.tree r.blank in
-    let opens : Opens d l p lines (OpensNode (item_head p byte number columns) from lines) =
-    subst (Opens d l p lines) (inside_by d (path_of d.options r.tree) p lines byte number columns marker rest some)
-    (begins_open d defined r p lines (item_start p (byte, number, columns) (marker, rest)) b) in
-    let now = item_is_open d defined r p lines byte number columns from b.may opens in
-    let g : Forest Item = (list_continued (offset p) byte number r).tree in
-    let q : PassState = item_opened (offset p) byte number columns r in (
-      now.blank,
-      now.is_begun.ready,
-      plain_open d.options q.tree now.is_begun.ready.frames now.is_begun.ready.are_open
-          (ap is_list (top_opened g (node_of (offset p) 0 (ListItemBody columns)))),
-    )
-
--- a definition with something after its marker
-pub ready_definition : (d : Document) (defined : Tables) (r : PassState) (p : Place) (lines : List Place) (columns : ℕ) (rest : Rest)
-    → ContainerBegins d defined r p lines (definition_start p (columns, rest)) → may_begin_definition r.tree ≡ true → is_blank_rest rest ≡ false
-    → (let q : PassState = definition_begun (offset p) columns r in ReadyAt d defined q.tree q.blank (Inside (at_rest p rest)) lines)
-ready_definition d defined r p lines columns rest b takes some =
-    let q : PassState = definition_begun (offset p) columns r in
-    let from : Continues = Inside (at_rest p rest) in
-    let l : Level = level_of d.options r.tree r.blank in
-    let opens : Opens d l p lines (OpensNode (definition_head p columns) from lines) =
-    rw some at (begins_open d defined r p lines (definition_start p (columns, rest)) b) in
-    let now = definition_is_open d defined r p lines lines columns from b.may takes opens in
-    subst (λ t. ReadyAt d defined q.tree t from lines) (sym now.blank) now.is_begun.ready
 
 -- what follows an item's marker if more of its line is left: blocks, or the text of a task
 pub after_opened : (marker : Option Item) (q : PassState) → ((x : Item) → marker ≡ Some x → is_task_marker x.body ≡ true) → q.begin_list_item ≡ None
@@ -403,52 +145,33 @@ module _ (b : ItemBody) (g : Forest Item) (start : ℕ) where
   longer : (n : ℕ) → length (with_columns n).nodes ≡ length g.nodes + 1
   longer n = length-append g.nodes ((length g.spine + 1, node_of start 0 (item_body b n)) ∷ [])
 
-  -- the path with the item, for any indent
-  opened_path : (options : Options) (m n : ℕ) (path : List Container)
-      → AreBelow (length (with_columns m).nodes) (map (λ (i : TreeIndex). i.0) (with_columns m).spine)
-      → path_of options (with_columns m) ≡ item_container b m ∷ path → path_of options (with_columns n) ≡ item_container b n ∷ path
-  opened_path options m n path below is =
-      let top : (k : ℕ) → path_of options (with_columns k) ≡ item_container b k ∷ path_in options (with_columns k).nodes g.spine =
-      λ k. ap (λ o. with_container (option_and_then (container_of options) o) (path_in options (with_columns k).nodes g.spine))
-      (top_opened g (node_of start 0 (item_body b k)))
-      ∙ ap (λ o. with_container o (path_in options (with_columns k).nodes g.spine)) (item_path options b k) in
-      let outer : path_in options (with_columns m).nodes g.spine ≡ path = (let e = sym (top m) ∙ is in cc) in
-      let same : (k : ℕ) → path_in options (with_columns k).nodes g.spine ≡ path_in options g.nodes g.spine = λ k.
-      path_below options g.nodes (with_columns k).nodes (length g.nodes) g.spine
-      (λ i h. ap (option_map (λ (n : ℕ × Item). n.1.body)) (get_front g.nodes _ i h)) below.1 in
-      top n ∙ ap (λ z. item_container b n ∷ z) (same n ∙ sym (same m) ∙ outer)
+  -- the path with the item
+  opened_path : (options : Options) (n : ℕ) → AreBelow (length g.nodes) (map (λ (i : TreeIndex). i.0) g.spine)
+      → path_of options (with_columns n) ≡ item_container b n ∷ path_in options g.nodes g.spine
+  opened_path options n below =
+      let nodes : List (ℕ × Item) = (with_columns n).nodes in
+      ap (λ o. with_container (option_and_then (container_of options) o) (path_in options nodes g.spine)) (top_opened g (node_of start 0 (item_body b n)))
+      ∙ ap (λ o. with_container o (path_in options nodes g.spine)) (item_path options b n) ∙ ap (λ z. item_container b n ∷ z)
+      (path_below options g.nodes nodes (length g.nodes) g.spine (λ i h. ap (option_map (λ (n : ℕ × Item). n.1.body)) (get_front g.nodes _ i h)) below)
 
   -- a container that takes only blank lines, with a task list item marker after it or without one
-  without_indent_nodes : (n : ℕ) (more : List (ℕ × Item))
-      → modify ((with_columns n).nodes ++ more) (length g.nodes) (λ x. record { start = x.start; «end» = x.«end»; body = item_body b 0 })
-      ≡ (with_columns 0).nodes ++ more
-  without_indent_nodes n more =
-      let change : Item → Item = λ x. record { start = x.start; «end» = x.«end»; body = item_body b 0 } in
-      modify-append (with_columns n).nodes more (length g.nodes) change (let l = longer n in omega arith)
-      ∙ ap (λ z. z ++ more) (modify-at g.nodes [] (length g.spine + 1, node_of start 0 (item_body b n)) (length g.nodes) change refl)
-
   named_marked : (n : ℕ) (marker : Option Item) → with_body_at (with_child (with_columns n) marker) place (item_body b 0) ≡ with_child (with_columns 0) marker
-  named_marked n None = ap (λ ns. record (with_columns n) { nodes = ns }) (modify-at g.nodes [] (length g.spine + 1, node_of start 0 (item_body b n))
-      (length g.nodes) (λ x. record { start = x.start; «end» = x.«end»; body = item_body b 0 }) refl)
+  named_marked n None = grind (arith, modify-at)
   named_marked n (Some y) =
-      let f : Forest Item = appended (with_columns n) y in
-      let h : Forest Item = appended (with_columns 0) y in
-      ap (λ ns. record f { nodes = ns }) (without_indent_nodes n ((length (with_columns n).spine + 1, y) ∷ []))
-      ∙ ap (λ k. record h { current = Some (record { 0 = k }) }) (longer n ∙ sym (longer 0))
+      let more : List (ℕ × Item) = (length (with_columns n).spine + 1, y) ∷ [] in
+      let change : Item → Item = λ x. record { start = x.start; «end» = x.«end»; body = item_body b 0 } in
+      let nodes : modify ((with_columns n).nodes ++ more) (length g.nodes) change ≡ (with_columns 0).nodes ++ more =
+      modify-append (with_columns n).nodes more (length g.nodes) change (let l = longer n in omega arith)
+      ∙ ap (λ z. z ++ more) (modify-at g.nodes [] (length g.spine + 1, node_of start 0 (item_body b n)) (length g.nodes) change refl) in
+      ap (λ ns. record (appended (with_columns n) y) { nodes = ns }) nodes
+      ∙ ap (λ k. record (appended (with_columns 0) y) { current = Some (record { 0 = k }) }) (longer n ∙ sym (longer 0))
 
   without_indent_marked : (n : ℕ) (marker : Option Item) → top_without_indent (with_child (with_columns n) marker) ≡ with_child (with_columns 0) marker
-  without_indent_marked n marker =
-      ap (body_without_indent (with_child (with_columns n) marker)) (marked_open g (node_of start 0 (item_body b n)) marker)
-      ∙ without_indent_is (with_child (with_columns n) marker) place g.spine b n (marked_spine (with_columns n) marker) ∙ named_marked n marker
+  without_indent_marked n marker = grind (arith, marked_open, without_indent_is, marked_spine, named_marked)
 
 -- the state after the markers of an empty item
 abbrev pub empty_item_read : PassState → Option Item → ℕ → PassState
 empty_item_read r marker e = record r { tree = with_child r.tree marker; begin_list_item = Some e }
-
-in_item : (d : Document) (defined : Tables) (f : Forest Item) (e : ℕ) (lines : List Place) (t blank : Bool)
-    → blank ≡ false → next_is_blank (path_of d.options f) lines ≡ t → ReadyBeforeLine d defined f e lines t → ReadyInItem d defined f e lines blank
-in_item d defined f e lines t true none is ready = cc
-in_item d defined f e lines t false none is ready = subst (ReadyBeforeLine d defined f e lines) (sym is) ready
 
 -- if the next line is blank too, the item takes only blank lines
 abbrev columns_by : Bool → ℕ → ℕ
@@ -457,17 +180,36 @@ columns_by t n = if t then 0 else n
 abbrev blanks_by : Bool → ℕ → Option ℕ
 blanks_by t e = if t then Some e else None
 
-module _ (d : Document) (defined : Tables) (b : ItemBody) (g : Forest Item) (start columns : ℕ) (q : PassState) (marker : Option Item) (p : Place)
-    (lines : List Place) (e : ℕ) (path : List Container) (tree : q.tree ≡ with_open g (node_of start 0 (item_body b columns))) (blank : q.blank ≡ false)
-    (other : IsNoParagraph marker) where
+module _ (d : Document) (defined : Tables) (b : ItemBody) (g : Forest Item) (start columns : ℕ) (marker : Option Item) (p : Place) (lines : List Place)
+    (e : ℕ) (path : List Container) (other : IsNoParagraph marker) where
   abbrev full : Forest Item
   full = with_columns b g start columns
 
-  empty_read : (t : Bool) → path_of d.options (with_child full marker) ≡ item_container b columns ∷ path
-      → next_is_blank (item_container b columns ∷ path) lines ≡ t → ReadyBeforeLine d defined (with_child full marker) e lines t
-      → ReadyEmpty d defined (empty_item_read q marker e) e lines
-  empty_read t path_is next ready =
-      subst (λ (z : Forest Item). ReadyEmpty d defined (record q { tree = with_child z marker; begin_list_item = Some e }) e lines) (sym tree) (record {
+  abbrev IsOpenFor : Bool → Type 0
+  IsOpenFor t =
+      IsBegun d defined (with_columns b g start (columns_by t columns)) (item_container b (columns_by t columns)) (only_task marker p (blanks_by t e)) lines
+      path
+
+  opened_last : (n : ℕ) (m : Option Item) → is_list (top_body (with_child (with_columns b g start n) m)) ≡ false
+  opened_last n m = ap is_list (marked_open g (node_of start 0 (item_body b n)) m) ∙ (item_kind b n).1
+
+  before_line : (t : Bool) → IsOpenFor t → ReadyBeforeLine d defined (with_child full marker) e lines t
+  before_line true begun =
+      subst (λ f. ReadyAt d defined f false (Blanks e) lines) (sym (without_indent_marked b g start columns marker))
+      (ready_marked d defined (with_columns b g start 0) marker p (Some e) lines other (opened_last 0) begun.ready)
+  before_line false begun = ready_marked d defined full marker p None lines other (opened_last columns) begun.ready
+
+  empty_is : (t blank : Bool) → blank ≡ false → next_is_blank (item_container b columns ∷ path) lines ≡ t → IsOpenFor t
+      → ReadyEmpty d defined (state_with (with_child full marker) (Some e) blank) e lines
+  empty_is t blank uncounted next begun =
+      let below = begun.ready.completes.below in
+      let all_below : AreBelow (length full.nodes) (map (λ (i : TreeIndex). i.0) full.spine) =
+      subst (λ k. AreBelow k (map (λ (i : TreeIndex). i.0) full.spine)) (longer b g start (columns_by t columns) ∙ sym (longer b g start columns)) below in
+      let outer : path_in d.options g.nodes g.spine ≡ path =
+      (let e = sym (opened_path b g start d.options (columns_by t columns) below.1) ∙ begun.path_is in cc) in
+      let path_is : path_of d.options (with_child full marker) ≡ item_container b columns ∷ path =
+      marked_path d.options full marker all_below ∙ opened_path b g start d.options columns below.1 ∙ ap (λ z. item_container b columns ∷ z) outer in
+      record {
         place = place b g start;
         outer = g.spine;
         columns = columns;
@@ -476,79 +218,282 @@ module _ (d : Document) (defined : Tables) (b : ItemBody) (g : Forest Item) (sta
             (sym (ap (top_in (with_child full marker).nodes) (marked_spine full marker)) ∙ marked_open g (node_of start 0 (item_body b columns)) marker)
             ∙ item_columns_of b columns;
         none = λ some. cc;
-        ready = in_item d defined (with_child full marker) e lines t q.blank blank (ap (λ z. next_is_blank z lines) path_is ∙ next) ready;
-      })
-
-  opened_last : (n : ℕ) (m : Option Item) → is_list (top_body (with_child (with_columns b g start n) m)) ≡ false
-  opened_last n m = ap is_list (marked_open g (node_of start 0 (item_body b n)) m) ∙ (item_kind b n).1
-
-  empty_is : (t : Bool) → next_is_blank (item_container b columns ∷ path) lines ≡ t
-      → IsBegun d defined (with_columns b g start (columns_by t columns)) (item_container b (columns_by t columns)) (only_task marker p (blanks_by t e)) lines
-      path
-      → ReadyEmpty d defined (empty_item_read q marker e) e lines
-  empty_is true next begun =
-      let zero_node : Forest Item = with_columns b g start 0 in
-      let marked = ready_marked d defined zero_node marker p (Some e) lines other (opened_last 0) begun.ready in
-      let below : AreBelow (length full.nodes) (map (λ (i : TreeIndex). i.0) full.spine) =
-      subst (λ k. AreBelow k (map (λ (i : TreeIndex). i.0) full.spine)) (longer b g start 0 ∙ sym (longer b g start columns)) begun.ready.completes.below in
-      empty_read true (marked_path d.options full marker below
-      ∙ opened_path b g start d.options 0 columns path begun.ready.completes.below begun.path_is) next
-      (subst (λ f. ReadyAt d defined f false (Blanks e) lines) (sym (without_indent_marked b g start columns marker)) marked)
-  empty_is false next begun =
-      empty_read false (marked_path d.options full marker begun.ready.completes.below ∙ begun.path_is) next
-      (ready_marked d defined full marker p None lines other (opened_last columns) begun.ready)
+        ready = rw uncounted (subst (ReadyBeforeLine d defined (with_child full marker) e lines)
+            (sym (ap (λ z. next_is_blank z lines) path_is ∙ next)) (before_line t begun));
+      }
 
 -- nothing follows the markers of a container in its line, and the next line begins at an offset
 pub record EndsLine (d : Document) (rest : Rest) (lines : List Place) (e : ℕ) : Type 0 where
   pub blank : is_blank_rest rest ≡ true
   pub next : start_of (length d.text) lines ≡ e
 
--- the opening of an empty item, from its markers
+-- the opening of an empty item, and of an empty definition, from its markers
 item_opens : (d : Document) (path : List Container) (p : Place) (lines : List Place) (m : ListMarker) (marker : Option Item) (rest : Rest) (e : ℕ)
     (t : Bool) → EndsLine d rest lines e → next_is_blank (ListItem m.indent ∷ path) lines ≡ t
     → opening_of d path p lines (item_start p (m.byte, m.number, m.indent) (marker, rest))
     ≡ OpensNode (item_head p m.byte m.number (columns_by t m.indent)) (only_task marker (at_rest p rest) (blanks_by t e)) lines
 item_opens d path p lines m marker rest e t over n = grind (arith, n, over.blank, over.next)
 
--- an item with nothing after its markers
-pub ready_empty_item : (d : Document) (defined : Tables) (r : PassState) (p : Place) (lines : List Place) (m : ListMarker) (marker : Option Item)
-    (rest : Rest) (e : ℕ) → ContainerBegins d defined r p lines (item_start p (m.byte, m.number, m.indent) (marker, rest)) → IsNoParagraph marker
-    → EndsLine d rest lines e → Ready d defined (empty_item_read (item_opened (offset p) m.byte m.number m.indent r) marker e) lines
-unfolding Ready
-ready_empty_item d defined r p lines m marker rest e b other over =
-    let path : List Container = path_of d.options r.tree in
-    let t : Bool = next_is_blank (ListItem m.indent ∷ path) lines in
-    let n : ℕ = columns_by t m.indent in
-    let from : Continues = only_task marker (at_rest p rest) (blanks_by t e) in
-    let opens : Opens d (level_of d.options r.tree r.blank) p lines (OpensNode (item_head p m.byte m.number n) from lines) =
-    subst (Opens d (level_of d.options r.tree r.blank) p lines) (item_opens d path p lines m marker rest e t over refl)
-    (begins_open d defined r p lines (item_start p (m.byte, m.number, m.indent) (marker, rest)) b) in
-    let now = item_is_open d defined r p lines m.byte m.number n from b.may opens in
-    empty_is d defined (ListItemBody m.indent) (list_continued (offset p) m.byte m.number r).tree (offset p) m.indent
-    (item_opened (offset p) m.byte m.number m.indent r) marker (at_rest p rest) lines e path refl now.blank other t refl now.is_begun
-
--- the opening of an empty definition, from its marker
 definition_opens : (d : Document) (path : List Container) (p : Place) (lines : List Place) (columns : ℕ) (rest : Rest) (e : ℕ) (t : Bool)
     → EndsLine d rest lines e → next_is_blank (Definition columns ∷ path) lines ≡ t
     → opening_of d path p lines (definition_start p (columns, rest))
     ≡ OpensNode (definition_head p (columns_by t columns)) (only_task None (at_rest p rest) (blanks_by t e)) lines
 definition_opens d path p lines columns rest e t over n = grind (arith, n, over.blank, over.next)
 
--- a definition with nothing after its marker
-pub ready_empty_definition : (d : Document) (defined : Tables) (r : PassState) (p : Place) (lines : List Place) (columns : ℕ) (rest : Rest) (e : ℕ)
-    → ContainerBegins d defined r p lines (definition_start p (columns, rest)) → may_begin_definition r.tree ≡ true → EndsLine d rest lines e
-    → Ready d defined (empty_item_read (definition_begun (offset p) columns r) None e) lines
-unfolding Ready definition_begun
-ready_empty_definition d defined r p lines columns rest e b takes over =
-    let path : List Container = path_of d.options r.tree in
-    let t : Bool = next_is_blank (Definition columns ∷ path) lines in
-    let n : ℕ = columns_by t columns in
-    let from : Continues = only_task None (at_rest p rest) (blanks_by t e) in
-    let l : Level = level_of d.options r.tree r.blank in
-    let opens : Opens d l p lines (OpensNode (definition_head p n) from lines) =
-    subst (Opens d l p lines) (definition_opens d path p lines columns rest e t over refl)
-    (begins_open d defined r p lines (definition_start p (columns, rest)) b) in
-    let now = definition_is_open d defined r p lines lines n from b.may takes opens in
-    let g : PassState = list_kept (with_tree r (definitions_opened r.tree r.tree.current)) in
-    empty_is d defined (DefinitionListDefinition columns) g.tree (offset p) columns (definition_begun (offset p) columns r) None (at_rest p rest) lines e path
-    refl now.blank (λ x some. cc) t refl now.is_begun
+-- A container is opened at the place of a state.
+module _ (d : Document) (defined : Tables) (r : PassState) (p : Place) (lines : List Place) where
+  abbrev OpensIt : Opening → Type 0
+  OpensIt opening = Opens d (level_of d.options r.tree r.blank) p lines opening
+
+  -- the opening there, over the frames
+  finished_opens : (new : PassState) (opening : Opening) (done : Finished d defined r new p lines opening)
+      → Opens d (lvl done.ready.0.frames (tail (closed_in new.tree) false)) p lines opening
+  finished_opens new opening done =
+      subst (λ z. Opens d z p lines opening) (open_level d.options new.tree done.ready.0.frames false done.ready.0.are_open) done.opens
+
+  finished_path : (new : PassState) (opening : Opening) (done : Finished d defined r new p lines opening)
+      → containers_of done.ready.0.frames ≡ path_of d.options r.tree
+  finished_path new opening done = sym (open_path d.options new.tree.nodes new.tree.spine done.ready.0.frames done.ready.0.are_open) ∙ done.path
+
+  -- a block quote of a kind is open, for any place where blocks continue in it
+  quote_is_open : (kind : Option BlockQuoteKind) (inside : Continues) (following : List Place) → MayBegin d defined r p lines
+      → OpensIt (OpensNode (quote_head p kind) inside following)
+      → HasBegun d defined r (begun (quote_start p) (BlockQuoteBody kind) (list_finished p.line r)) (BlockQuote kind) inside following
+  quote_is_open kind inside following may opens =
+      let opening : Opening = OpensNode (quote_head p kind) inside following in
+      let q : PassState = list_finished p.line r in
+      let begins : OpensOther d (path_of d.options r.tree) p opening =
+      record { stays = opens_stays d (level_of d.options r.tree r.blank) p lines opening refl opens; block = tt; other = refl } in
+      let done = ready_finished d defined r p lines p.line opening may begins opens
+      (quote_away (top_body r.tree) (closed_in r.tree) p kind following inside) in
+      let f : Forest Item = q.tree in
+      let now = done.ready.0 in
+      let k = completes-quote d (open_nodes defined now.frames f.nodes (map (λ (i : TreeIndex). i.0) f.spine)) (closed_in f) kind (quote_start p) p.line
+      (record { place = p; lines = lines; inside = inside; following = following; opens = finished_opens q opening done }) done.ready.1 now.completes in
+      record {
+        is_begun = subst (IsBegun d defined (with_open f (node_of (quote_start p) 0 (BlockQuoteBody kind))) (BlockQuote kind) inside following)
+            (finished_path q opening done)
+            (begun_ready d defined f (node_of (quote_start p) 0 (BlockQuoteBody kind)) (BlockQuote kind) now.frames inside following refl refl now.are_open
+            k);
+        blank = done.blank;
+        none = done.none;
+      }
+
+  -- the start of a container opens it
+  begins_open : (s : Start) → ContainerBegins d defined r p lines s → OpensIt (opening_of d (path_of d.options r.tree) p lines s)
+  begins_open s b = opens_start d (level_of d.options r.tree r.blank) p lines s b.bare b.begins
+
+  -- a block quote without a tag
+  pub ready_quote : (inside : Rest) → ContainerBegins d defined r p lines (quote_begun p None inside)
+      → (let q : PassState = begun (quote_start p) (BlockQuoteBody None) (list_finished p.line r) in
+      ReadyAt d defined q.tree q.blank (Inside (at_rest p inside)) lines)
+  ready_quote inside b =
+      let now = quote_is_open None (Inside (at_rest p inside)) lines b.may (begins_open (quote_begun p None inside) b) in
+      rw now.blank now.is_begun.ready
+
+  -- a block quote with one
+  pub ready_tagged : (inside : Rest) (kind : BlockQuoteKind) → ContainerBegins d defined r p lines (quote_begun p (Some kind) inside)
+      → ReadyTagged d defined (begun (quote_start p) (BlockQuoteBody (Some kind)) (list_finished p.line r)) lines
+  ready_tagged inside kind b =
+      let from : Continues × List Place = after_tag (around d (BlockQuote (Some kind) ∷ path_of d.options r.tree)) lines in
+      let now = quote_is_open (Some kind) from.0 from.1 b.may (begins_open (quote_begun p (Some kind) inside) b) in
+      record {
+        kind = Some kind;
+        quote = top_opened (list_finished p.line r).tree (node_of (quote_start p) 0 (BlockQuoteBody (Some kind)));
+        blank = now.blank;
+        ready = rw now.is_begun.path_is now.is_begun.ready;
+      }
+
+  module _ (byte number columns : ℕ) (inside : Continues) (may : MayBegin d defined r p lines)
+      (opens : OpensIt (OpensNode (item_head p byte number columns) inside lines)) where
+    abbrev ItemIsOpen : PassState → Type 0
+    ItemIsOpen q = HasBegun d defined r q (ListItem columns) inside lines
+
+    abbrev item : Item
+    item = node_of (offset p) 0 (ListItemBody columns)
+
+    abbrev opening : Opening
+    opening = OpensNode (item_head p byte number columns) inside lines
+
+    -- in a list that begins with the item
+    in_new_list : is_list_of byte (top_body r.tree) ≡ false
+        → ItemIsOpen (begun (offset p) (ListItemBody columns) (begun (offset p) (ListBody (list_flags true) byte number) (list_finished (offset p) r)))
+    in_new_list other =
+        let q : PassState = list_finished (offset p) r in
+        let begins : OpensOther d (path_of d.options r.tree) p opening =
+        record { stays = opens_stays d (level_of d.options r.tree r.blank) p lines opening refl opens; block = tt; other = refl } in
+        let done = ready_finished d defined r p lines (offset p) opening may begins opens
+        (item_away (top_body r.tree) (closed_in r.tree) p byte number columns inside lines other) in
+        let f : Forest Item = q.tree in
+        let frames : List Frame = done.ready.0.frames in
+        let os : List ℕ = map (λ (i : TreeIndex). i.0) f.spine in
+        let y : Item = node_of (offset p) 0 (ListBody (list_flags true) byte number) in
+        let g : Forest Item = with_open f y in
+        let k = completes-list d (open_nodes defined frames f.nodes os) (closed_in f) (list_flags true)
+        (record { byte = byte; number = number; columns = columns; start = offset p; line = p.line })
+        (record { place = p; lines = lines; inside = inside; following = lines; opens = finished_opens q opening done })
+        done.ready.1 done.ready.0.completes in
+        let n : length g.nodes ≡ suc (length f.nodes) = (let l = length-append f.nodes ((length f.spine + 1, y) ∷ []) in omega arith) in
+        let deep : suc (length os) ≡ length f.spine + 1 = depth_of f.spine in
+        let nodes : f.nodes ++ (suc (length os), y) ∷ (suc (suc (length os)), item) ∷ [] ≡ g.nodes ++ (suc (suc (length os)), item) ∷ [] =
+        sym (append_assoc f.nodes ((suc (length os), y) ∷ []) ((suc (suc (length os)), item) ∷ []))
+        ∙ ap (λ z. (f.nodes ++ (z, y) ∷ []) ++ (suc (suc (length os)), item) ∷ []) deep in
+        let now : List Frame = InContainer (ListItem columns) ∷ InList byte false ∷ frames in
+        let list_open : AreOpen d.options g.nodes g.spine (InList byte false ∷ frames) =
+        opened_too d.options f.nodes (length f.spine + 1) y f.spine frames (InList byte false) refl refl done.ready.0.completes.below done.ready.0.are_open in
+        record {
+          is_begun = subst (IsBegun d defined (with_open g item) (ListItem columns) inside lines) (finished_path q opening done)
+              (begun_ready d defined g item (ListItem columns) (InList byte false ∷ frames) inside lines refl refl list_open
+              (subst (λ z. CompletesAt d defined fresh now (g.nodes ++ (suc (suc (length os)), item) ∷ []) (z ∷ length f.nodes ∷ os) inside lines) (sym n)
+              (subst (λ z. CompletesAt d defined fresh now z (suc (length f.nodes) ∷ length f.nodes ∷ os) inside lines) nodes k)));
+          blank = done.blank;
+          none = done.none;
+        }
+
+    -- the list that continues, loose if a blank line is before the item
+    kept_by : (run : Bool) → r.blank ≡ run → (ix : TreeIndex) (rest : List TreeIndex) → r.tree.spine ≡ ix ∷ rest
+        → (let q : PassState = if run then record r { tree = loosened_top r.tree r.tree.spine; blank = false } else r in
+        (q.tree ≡ (if run then loosened_at r.tree ix else r.tree)) × (q.blank ≡ false) × (q.begin_list_item ≡ None))
+    kept_by true is ix rest spine = (ap (loosened_top r.tree) spine, refl, may.none)
+    kept_by false is ix rest spine = (refl, is, may.none)
+
+    -- the innermost open node is a list of items with this byte
+    record InnermostList : Type 0 where
+      list : TreeIndex
+      rest : List TreeIndex
+      flags : ListFlags
+      first : ℕ
+      loose : Bool
+      spine : r.tree.spine ≡ list ∷ rest
+      body : body_at r.tree.nodes list.0 ≡ Some (ListBody flags byte first)
+      inner : Innermost d defined r.tree r.blank (Inside p) lines list rest (closed_in r.tree) (InList byte loose)
+
+    goes_on_as : (l : InnermostList) (run : Bool) → (let f : Forest Item = if run then loosened_at r.tree l.list else r.tree in
+        AreOpen d.options f.nodes (l.list ∷ l.rest) (InList byte (l.loose || run) ∷ l.inner.outer)
+        × CompletesAt d defined (tail (closed_in r.tree) r.blank) (InList byte l.loose ∷ l.inner.outer) f.nodes
+        (l.list.0 ∷ map (λ i. i.0) l.rest) (Inside p) lines
+        × (f.spine ≡ l.list ∷ l.rest))
+    unfolding reflagged
+    goes_on_as l true =
+        let ix : TreeIndex = l.list in
+        let body : ItemBody = ListBody l.flags byte l.first in
+        let nodes = loose_is r.tree ix body l.flags l.body refl in
+        let outer : AreOpen d.options (loosened_at r.tree ix).nodes l.rest l.inner.outer =
+        open_below d.options r.tree.nodes _ ix.0 l.rest l.inner.outer (λ i h.
+        ap (λ z. frame_at d.options z i) nodes ∙ ap (option_and_then (frame_of d.options)) (body-other r.tree.nodes ix.0 i _ h))
+        l.inner.completes.below.1 l.inner.are_open.1 in (
+          (loose_frame d.options r.tree ix body l.flags (InList byte l.loose) l.body refl l.inner.are_open.0, outer, refl),
+          rw nodes (completes-reflag_list d (open_nodes defined l.inner.outer r.tree.nodes (map (λ i. i.0) l.rest)) (tail (closed_in r.tree) r.blank) byte
+              l.loose ix.0 (Inside p) lines l.inner.completes),
+          loosened_spine r.tree ix (body_at r.tree.nodes ix.0) ∙ l.spine,
+        )
+    goes_on_as l false =
+        ((l.inner.are_open.0 ∙ ap (λ z. Some (InList byte z)) (sym (or-false l.loose)), l.inner.are_open.1, refl), l.inner.completes, l.spine)
+
+    in_list : (l : InnermostList)
+        → IsBegun d defined (with_open (if r.blank then loosened_at r.tree l.list else r.tree) item) (ListItem columns) inside lines (path_of d.options r.tree)
+    in_list l =
+        let f : Forest Item = if r.blank then loosened_at r.tree l.list else r.tree in
+        let now = goes_on_as l r.blank in
+        let done = completes-item d (open_nodes defined l.inner.outer f.nodes (map (λ (i : TreeIndex). i.0) l.rest)) (closed_in r.tree) r.blank l.loose
+        l.list.0 (record { byte = byte; number = number; columns = columns; start = offset p; line = p.line }) (record {
+          place = p;
+          lines = lines;
+          inside = inside;
+          following = lines;
+          opens = subst (λ z. Opens d z p lines opening) l.inner.level opens;
+        }) now.1 in
+        subst (IsBegun d defined (with_open f item) (ListItem columns) inside lines) (sym l.inner.path)
+        (begun_ready d defined f item (ListItem columns) (InList byte (l.loose || r.blank) ∷ l.inner.outer) inside lines refl refl (rw now.2 now.0)
+        (rw now.2 done))
+
+    in_list_by : (s : List TreeIndex) (b : Option ItemBody)
+        → r.tree.spine ≡ s → option_and_then (λ (ix : TreeIndex). body_at r.tree.nodes ix.0) (slice_get s 0) ≡ b → is_list_of byte b ≡ true
+        → ItemIsOpen (begun (offset p) (ListItemBody columns) (list_kept r))
+    in_list_by s None spine is same = cc
+    in_list_by [] (Some b) spine is same = cc
+    in_list_by (ix ∷ rest) (Some (ListBody flags list n)) spine is same =
+        let kept = kept_by r.blank refl ix rest spine in
+        let equal : list ≡ byte = grind (arith, nat_tests, same) in
+        let body : body_at r.tree.nodes ix.0 ≡ Some (ListBody flags byte n) = rw equal at is in
+        let i = innermost_of d defined r.tree r.blank (Inside p) lines ix rest spine may.ready in
+        let (loose, framed) = list_frame d.options flags byte n i.0 (subst (λ z. HasFrame d.options z i.0) body i.1) in
+        let l : InnermostList = record {
+          list = ix;
+          rest = rest;
+          flags = flags;
+          first = n;
+          loose = loose;
+          spine = spine;
+          body = body;
+          inner = subst (Innermost d defined r.tree r.blank (Inside p) lines ix rest (closed_in r.tree)) framed i.2;
+        } in
+        record { is_begun = rw kept.0 (in_list l); blank = kept.1; none = kept.2 }
+    in_list_by (ix ∷ rest) (Some b) spine is same = cc
+
+    item_is_open_by : (t : Bool) → is_list_of byte (top_body r.tree) ≡ t
+        → ItemIsOpen (begun (offset p) (ListItemBody columns)
+        (if t then list_kept r else begun (offset p) (ListBody (list_flags true) byte number) (list_finished (offset p) r)))
+    item_is_open_by true is = in_list_by r.tree.spine (top_body r.tree) refl refl is
+    item_is_open_by false is = in_new_list is
+
+    -- an item is open, in the list that continues or in a new one
+    item_is_open : ItemIsOpen (item_opened (offset p) byte number columns r)
+    unfolding list_continued empty_item_closed
+    item_is_open =
+        let same : empty_item_closed_by r r.begin_list_item ≡ r = ap (empty_item_closed_by r) may.none in
+        rw same (item_is_open_by (is_list_of byte (top_body r.tree)) refl)
+
+  -- an item with something after its markers
+  pub ready_item : (byte number columns : ℕ) (marker : Option Item) (rest : Rest)
+      → ContainerBegins d defined r p lines (item_start p (byte, number, columns) (marker, rest)) → is_blank_rest rest ≡ false
+      → (let q : PassState = item_opened (offset p) byte number columns r in
+      (q.blank ≡ false) × (now : ReadyAt d defined q.tree false (past_task marker (at_rest p rest)) lines) × IsPlain now.frames)
+  ready_item byte number columns marker rest b some =
+      let from : Continues = past_task marker (at_rest p rest) in
+      let is : opening_of d (path_of d.options r.tree) p lines (item_start p (byte, number, columns) (marker, rest))
+      ≡ OpensNode (item_head p byte number columns) from lines = grind (arith, some) in
+      let now = item_is_open byte number columns from b.may (subst OpensIt is (begins_open (item_start p (byte, number, columns) (marker, rest)) b)) in
+      let q : PassState = item_opened (offset p) byte number columns r in (
+        now.blank,
+        now.is_begun.ready,
+        plain_open d.options q.tree now.is_begun.ready.frames now.is_begun.ready.are_open
+            (ap is_list (top_opened (list_continued (offset p) byte number r).tree (node_of (offset p) 0 (ListItemBody columns)))),
+      )
+
+  -- a definition with something after its marker
+  pub ready_definition : (columns : ℕ) (rest : Rest) → ContainerBegins d defined r p lines (definition_start p (columns, rest))
+      → may_begin_definition r.tree ≡ true → is_blank_rest rest ≡ false
+      → (let q : PassState = definition_begun (offset p) columns r in ReadyAt d defined q.tree q.blank (Inside (at_rest p rest)) lines)
+  ready_definition columns rest b takes some =
+      let now = definition_is_open d defined r p lines lines columns (Inside (at_rest p rest)) b.may takes
+      (rw some at (begins_open (definition_start p (columns, rest)) b)) in
+      rw now.blank now.is_begun.ready
+
+  -- an item with nothing after its markers
+  pub ready_empty_item : (m : ListMarker) (marker : Option Item) (rest : Rest) (e : ℕ)
+      → ContainerBegins d defined r p lines (item_start p (m.byte, m.number, m.indent) (marker, rest)) → IsNoParagraph marker → EndsLine d rest lines e
+      → Ready d defined (empty_item_read (item_opened (offset p) m.byte m.number m.indent r) marker e) lines
+  unfolding Ready
+  ready_empty_item m marker rest e b other over =
+      let path : List Container = path_of d.options r.tree in
+      let t : Bool = next_is_blank (ListItem m.indent ∷ path) lines in
+      let from : Continues = only_task marker (at_rest p rest) (blanks_by t e) in
+      let now = item_is_open m.byte m.number (columns_by t m.indent) from b.may (subst OpensIt (item_opens d path p lines m marker rest e t over refl)
+      (begins_open (item_start p (m.byte, m.number, m.indent) (marker, rest)) b)) in
+      empty_is d defined (ListItemBody m.indent) (list_continued (offset p) m.byte m.number r).tree (offset p) m.indent marker (at_rest p rest) lines e path
+      other t _ now.blank refl now.is_begun
+
+  -- a definition with nothing after its marker
+  pub ready_empty_definition : (columns : ℕ) (rest : Rest) (e : ℕ) → ContainerBegins d defined r p lines (definition_start p (columns, rest))
+      → may_begin_definition r.tree ≡ true → EndsLine d rest lines e
+      → Ready d defined (empty_item_read (definition_begun (offset p) columns r) None e) lines
+  unfolding Ready definition_begun
+  ready_empty_definition columns rest e b takes over =
+      let path : List Container = path_of d.options r.tree in
+      let t : Bool = next_is_blank (Definition columns ∷ path) lines in
+      let from : Continues = only_task None (at_rest p rest) (blanks_by t e) in
+      let now = definition_is_open d defined r p lines lines (columns_by t columns) from b.may takes
+      (subst OpensIt (definition_opens d path p lines columns rest e t over refl) (begins_open (definition_start p (columns, rest)) b)) in
+      empty_is d defined (DefinitionListDefinition columns) (list_kept (with_tree r (definitions_opened r.tree r.tree.current))).tree (offset p) columns None
+      (at_rest p rest) lines e path (λ x some. cc) t _ now.blank refl now.is_begun

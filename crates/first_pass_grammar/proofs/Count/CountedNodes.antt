@@ -1,7 +1,7 @@
 -- The number of counted nodes in a list: no more than there are nodes; the same at another depth, or with
 -- changes that closing makes; and no more than its parts have together.
-use Rattle.std.proofs.Common.{◌≡◌, ℕ, zero, suc, ◌+◌, ◌≤◌, Bool, true, false, if◌then◌else◌, List, [], ◌∷◌, ◌++◌, length, Option, Some, None, refl, sym, ap}
-use Rattle.std.proofs.Common.{◌∙◌, arith, eq-eqb}
+use Rattle.std.proofs.Common.{◌≡◌, ℕ, zero, suc, ◌+◌, ◌≤◌, Bool, true, false, if◌then◌else◌, List, [], ◌∷◌, ◌++◌, length, Option, Some, None, refl, ap}
+use Rattle.std.proofs.Common.{arith, eq-eqb}
 use Rattle.first_pass_grammar.proofs.Common.{Item, ItemBody, TableCell, modify, at_depth, body_at, is_row, is_cell, is_inserted_after, own, counted_nodes}
 use Rattle.first_pass_grammar.specs.Counting.{last_cell}
 
@@ -23,8 +23,7 @@ fresh_by row is start cell nodes h = grind arith
 pub own_fresh : (cell : Option ℕ) (nodes : List (ℕ × Item)) → own cell nodes ≤ counted_nodes nodes
 unfolding own
 own_fresh cell [] = omega arith
-own_fresh cell (n ∷ nodes) =
-    one_at_most (is_inserted_after cell n.1) _ _ (fresh_by (is_row n.1.body) (is_cell n.1.body) n.1.start cell nodes (own_fresh cell nodes))
+own_fresh cell (n ∷ nodes) = grind (arith, one_at_most, fresh_by, own_fresh cell nodes)
 
 -- a list with more after it has no more than both together
 join_one : (t : Bool) (m a b : ℕ) → m ≤ a + b → (if t then 0 else 1) + m ≤ (if t then 0 else 1) + a + b
@@ -70,10 +69,7 @@ last_alike x y cell h = (let s = h.start in let c = h.cell in let r = h.row in c
 pub alike_first : (cell : Option ℕ) (d e : ℕ) (x y : Item) (nodes more : List (ℕ × Item)) → CountAlike x y
     → ((after : Option ℕ) → own after more ≡ own after nodes) → own cell ((e, y) ∷ more) ≡ own cell ((d, x) ∷ nodes)
 unfolding own
-alike_first cell d e x y nodes more h same =
-    ap (λ (t : Bool). (if t then 0 else 1) + own (last_cell cell y) more) (inserted_alike x y cell h)
-    ∙ ap (λ (c : Option ℕ). (if is_inserted_after cell x then 0 else 1) + own c more) (last_alike x y cell h)
-    ∙ ap (λ (k : ℕ). (if is_inserted_after cell x then 0 else 1) + k) (same (last_cell cell x))
+alike_first cell d e x y nodes more h same = grind (arith, inserted_alike, last_alike)
 
 -- after the same node
 pub own_first : (cell : Option ℕ) (n : ℕ × Item) (nodes more : List (ℕ × Item))
@@ -94,9 +90,7 @@ own_ended nodes i e = own_modified None nodes i (λ x. record x { «end» = e })
 -- with another body at a place; both bodies or neither are a cell's, and both or neither a row's
 pub own_changed : (nodes : List (ℕ × Item)) (i : ℕ) (b c : ItemBody) → body_at nodes i ≡ Some b
     → is_cell c ≡ is_cell b → is_row c ≡ is_row b → counted_nodes (modify nodes i (λ x. record x { body = c })) ≡ counted_nodes nodes
-own_changed nodes i b c is cell row =
-    own_modified None nodes i (λ x. record x { body = c })
-    (λ x at. (let same : x.body ≡ b = cc in record { start = refl; cell = cell ∙ ap is_cell (sym same); row = row ∙ ap is_row (sym same) }))
+own_changed nodes i b c is cell row = grind (arith, own_modified)
 
 -- cells that all start at the same offset
 unfoldable pub AreCellsAt : ℕ → List (ℕ × Item) → Type 0
@@ -118,13 +112,9 @@ cell_again start x is at = (let same = eq-eqb x.start start at in rw (is, same) 
 own_reinserted : (start : ℕ) (nodes : List (ℕ × Item)) → AreCellsAt start nodes → own (Some start) nodes ≡ 0
 unfolding own AreCellsAt
 own_reinserted start [] h = refl
-own_reinserted start (n ∷ nodes) h =
-    let none = own_reinserted start nodes h.2 in
-    rw (cell_again start n.1 h.0 h.1, cell_next (Some start) start n.1 h.0 h.1, none) refl
+own_reinserted start (n ∷ nodes) h = grind (arith, cell_again, cell_next, own_reinserted start nodes h.2)
 
 pub own_inserted : (cell : Option ℕ) (start : ℕ) (nodes : List (ℕ × Item)) → AreCellsAt start nodes → own cell nodes ≤ 1
 unfolding own AreCellsAt
 own_inserted cell start [] h = omega arith
-own_inserted cell start (n ∷ nodes) h =
-    let none = own_reinserted start nodes h.2 in
-    rw (cell_next cell start n.1 h.0 h.1, none) (one_at_most (is_inserted_after cell n.1) 0 0 (omega arith))
+own_inserted cell start (n ∷ nodes) h = grind (arith, own_reinserted, cell_next, one_at_most)

@@ -1,11 +1,10 @@
 -- The rows of a table are found by a count that falls: how many more cells may be inserted into them.
-use Rattle.std.proofs.Common.{◌≡◌, ◌⊎◌, inl, inr, ℕ, ◌-◌, ◌<◌, ◌≤◌, ◌&&◌, Bool, true, false, nat_lt, nat_le, List, [], ◌∷◌, ◌++◌, length, None, refl, sym}
-use Rattle.std.proofs.Common.{ap, subst, arith}
+use Rattle.std.proofs.Common.{◌≡◌, ◌⊎◌, inl, inr, ℕ, ◌-◌, ◌<◌, ◌≤◌, ◌&&◌, Bool, true, false, nat_lt, nat_le, List, [], ◌∷◌, ◌++◌, length, None, refl, sym, ap}
+use Rattle.std.proofs.Common.{subst, arith}
 use Rattle.first_pass_grammar.proofs.Common.{nat_tests, Item, TableRow, Place, Document, around, inserted, row_block, row_text, Taken, taking, FoundRow}
 use Rattle.first_pass_grammar.proofs.Common.{HasCells, TableSoFar, table_so_far, AreRows}
 use Rattle.first_pass_grammar.specs.declared.kind.Container.{Container}
-use Rattle.first_pass_grammar.specs.Tables.{braces_after_rows, TakesRows, all_inserted}
-use Rattle.first_pass_grammar.specs.Tables.{with_rows, EndRows, row_blocks}
+use Rattle.first_pass_grammar.specs.Tables.{TakesRows, all_inserted, with_rows, EndRows, row_blocks}
 
 -- a line with these cells is a row if it has a cell and needs no more inserted cells than allowed
 abbrev pub is_row : TableSoFar → List (List (ℕ × Item)) → Bool
@@ -38,9 +37,7 @@ row_of table cells some node_bound = grind (arith, nat_tests)
 
 -- the number of inserted cells that are allowed in a table before any is inserted
 all_room : (table : TableSoFar) → table_so_far table.columns (table.room - 0) table.braces ≡ table
-all_room table =
-    let room : table.room - 0 ≡ table.room = omega arith in
-    ap (λ (k : ℕ). table_so_far table.columns k table.braces) room
+all_room table = grind arith
 
 no_row : (table : TableSoFar) (cells : List (List (ℕ × Item))) → is_row table cells ≡ false → (cells ≡ []) ⊎ (table.room < inserted table.columns cells)
 no_row table [] h = inl refl
@@ -51,10 +48,7 @@ none_of table cells h = grind (arith, nat_tests, h)
 
 -- rows end after a first row and other rows if they end after all of them
 rows_after : (table : TableSoFar) (row : FoundRow) (rows : List FoundRow) → with_rows (with_row table row) rows ≡ with_rows table (row ∷ rows)
-rows_after table row rows =
-    let room : table.room - inserted table.columns row.cells - all_inserted table.columns rows
-    ≡ table.room - all_inserted table.columns (row ∷ rows) = omega arith in
-    ap (λ (k : ℕ). table_so_far table.columns k (braces_after_rows row.after rows)) room
+rows_after table row rows = grind arith
 
 -- each longest run of rows is found by the count
 none_counted : (d : Document) (path : List Container) (table : TableSoFar) (lines : List Place) → EndRows d path table lines
@@ -68,8 +62,7 @@ all_counted : (d : Document) (path : List Container) (table : TableSoFar) (rows 
     → TakesRows d path table.braces rows lines left → all_inserted table.columns rows ≤ table.room → EndRows d path (with_rows table rows) left
     → RowsWithRoom d path table lines (taking (row_blocks table.columns rows) left)
 unfolding TakesRows RowsWithRoom
-all_counted d path table [] lines left same fits ends =
-    subst (λ z. RowsWithRoom d path table z (taking [] left)) same (none_counted d path table left (subst (λ z. EndRows d path z left) (all_room table) ends))
+all_counted d path table [] lines left same fits ends = grind (arith, none_counted, all_room)
 all_counted d path table (row ∷ rows) [] left none fits ends = absurd none
 all_counted d path table (row ∷ rows) (line ∷ lines) left (has, some, takes) fits ends =
     let here : inserted table.columns row.cells ≤ table.room = omega arith in
@@ -79,21 +72,13 @@ all_counted d path table (row ∷ rows) (line ∷ lines) left (has, some, takes)
 
 pub counted : (d : Document) (path : List Container) (table : TableSoFar) (lines : List Place) (t : Taken) → AreRows d path table lines t
     → RowsWithRoom d path table lines t
-counted d path table lines t h =
-    subst (λ z. RowsWithRoom d path table lines (taking z t.left)) (sym h.items_are)
-    (all_counted d path table h.rows lines t.left h.takes h.fits h.ends)
+counted d path table lines t h = grind (arith, all_counted)
 
 -- what the count finds is a longest run of rows
 no_rows : (d : Document) (path : List Container) (table : TableSoFar) (lines : List Place) (t : Taken) → t ≡ taking [] lines → EndRows d path table lines
     → AreRows d path table lines t
 unfolding TakesRows
-no_rows d path table lines t e ends = record {
-  rows = [];
-  takes = ap (λ (z : Taken). z.left) e;
-  fits = omega arith;
-  ends = subst (λ z. EndRows d path z t.left) (sym (all_room table)) (subst (λ (z : Taken). EndRows d path table z.left) (sym e) ends);
-  items_are = ap (λ (z : Taken). z.items) e;
-}
+no_rows d path table lines t e ends = grind (arith, all_room)
 
 one_row : (d : Document) (path : List Container) (table : TableSoFar) (line : Place) (lines : List Place) (row : FoundRow) (more : Taken)
     → HasCells d path line table.braces row → is_row table row.cells ≡ true → AreRows d path (with_row table row) lines more
@@ -115,8 +100,6 @@ pub are_rows : (d : Document) (path : List Container) (table : TableSoFar) (line
 unfolding RowsWithRoom EndRows
 are_rows d path table [] t e = no_rows d path table [] t e tt
 are_rows d path table (line ∷ lines) t (inl (none, e)) = no_rows d path table (line ∷ lines) t e (inl none)
-are_rows d path table (line ∷ lines) t (inr (row, has, inl (stops, e))) =
-    no_rows d path table (line ∷ lines) t e (inr (row, has, no_row table row.cells stops))
+are_rows d path table (line ∷ lines) t (inr (row, has, inl (stops, e))) = grind (arith, no_rows, no_row)
 are_rows d path table (line ∷ lines) t (inr (row, has, inr (is, more, rest, e))) =
-    subst (λ z. AreRows d path table (line ∷ lines) z) (sym e)
-    (one_row d path table line lines row more has is (are_rows d path (with_row table row) lines more rest))
+    grind (arith, one_row, are_rows d path (with_row table row) lines more rest)

@@ -1,12 +1,12 @@
 -- A property of leaf blocks, by their first body and the nodes below it, holds for each leaf block of a document.
 use Rattle.std.proofs.Common.{◌≡◌, ℕ, ◌-◌, ◌||◌, Bool, true, false, List, [], ◌∷◌, ◌++◌, length, drop, Option, Some, None, MatchOption, IfSome, refl, sym}
-use Rattle.std.proofs.Common.{ap, subst}
+use Rattle.std.proofs.Common.{ap, subst, arith}
 use Rattle.first_pass_grammar.proofs.Common.{or_right, slice_get_within, Alignment, HeadingLevel, Item, ItemBody, Rule, IndentCodeBlock, FencedCodeBlock}
 use Rattle.first_pass_grammar.proofs.Common.{MetadataBlock, HtmlBlock, TableHead, TableRow, TableCell, TaskListMarker, Text, SoftBreak, HardBreak, Html}
-use Rattle.first_pass_grammar.proofs.Common.{SynthesizeText, at_depth, block_of, level_number, Place, offset, start_of, no_braces, spot, leaves, is_markup}
+use Rattle.first_pass_grammar.proofs.Common.{SynthesizeText, at_depth, block_of, level_number, Place, offset, start_of, no_braces, spot, is_markup}
 use Rattle.first_pass_grammar.proofs.Common.{metadata_kind, is_row, is_cell, Kind, Blank, IndentedCode, Metadata, HtmlToEnd, HtmlToBlank, ThematicBreak}
 use Rattle.first_pass_grammar.proofs.Common.{AtxHeading, FencedCode, LinkDefinitions, unindented, Document, around, block_with, heading_text_at, TextLines}
-use Rattle.first_pass_grammar.proofs.Common.{kind_in, Ended, FlowsOn, range_text, range_html, AreRawLines, Opening, OpensText, OpensRun, OpensAs}
+use Rattle.first_pass_grammar.proofs.Common.{Ended, FlowsOn, range_text, range_html, AreRawLines, Opening, OpensText, OpensRun, OpensAs}
 use Rattle.first_pass_grammar.proofs.Common.{headed_table, inserted, most_inserted, row_block, table_so_far, Taken, taking, IsTable, IsPlainText, IsText}
 use Rattle.first_pass_grammar.proofs.Common.{IsUnderlined, text_children, heading_children, plain_text, underline_first, AreEachNode}
 use Rattle.first_pass_items.specs.declared.item.ItemBody.TheVariants.{Paragraph as ParagraphBody, Heading as HeadingBody}
@@ -32,17 +32,18 @@ is_first Rule = true
 is_first (TaskListMarker checked) = true
 is_first body = false
 
--- a later body in such a block: of a token, of a raw line, or a task list item marker
-abbrev pub is_plain : ItemBody → Bool
-is_plain (Text escaped) = true
-is_plain SoftBreak = true
-is_plain (HardBreak by_backslash) = true
-is_plain Html = true
-is_plain (TaskListMarker checked) = true
-is_plain body = false
+-- a body in a line: a text, a break, the HTML of a raw line, or a task list item marker
+abbrev pub is_line_part : ItemBody → Bool
+is_line_part (Text escaped) = true
+is_line_part SoftBreak = true
+is_line_part (HardBreak by_backslash) = true
+is_line_part Html = true
+is_line_part (TaskListMarker checked) = true
+is_line_part body = false
 
+-- a later body in such a block: a part of a line, or a token of possible markup
 abbrev pub is_later : ItemBody → Bool
-is_later body = is_plain body || is_markup body
+is_later body = is_line_part body || is_markup body
 
 -- a property of leaf blocks that are no tables, by a property of their later bodies
 pub record HoldsOfBlocks (d : Document) (Inner : ItemBody → Type 0) (P : List (ℕ × Item) → Type 0) : Type 0 where
@@ -63,7 +64,7 @@ module _ (d : Document) (Inner : ItemBody → Type 0) (P : List (ℕ × Item) �
     text = λ escaped. holds.later (Text escaped) refl tt;
     soft = holds.later SoftBreak refl tt;
     hard = λ by_backslash. holds.later (HardBreak by_backslash) refl tt;
-    markup = λ body is within. holds.later body (or_right (is_plain body) (is_markup body) is) (markup_entered d.names body is within);
+    markup = λ body is within. holds.later body (or_right (is_line_part body) (is_markup body) is) (markup_entered d.names body is within);
   }
 
   raw : HoldsOfRaw d.names.texts Inner
@@ -72,8 +73,7 @@ module _ (d : Document) (Inner : ItemBody → Type 0) (P : List (ℕ × Item) �
   -- a block with a chain
   chain_holds : (start stop : ℕ) (body : ItemBody) (chain : List Item) (items : List (ℕ × Item)) → items ≡ block_with start stop body chain
       → is_first body ≡ true → HasEntry d.names body → AreEach Inner chain → P items
-  chain_holds start stop body chain items is first entry h =
-      subst P (sym is) (holds.block (record { start = start; «end» = stop; body = body }) (leaves chain) first entry (leaves_nodes Inner chain h))
+  chain_holds start stop body chain items is first entry h = grind (arith, leaves_nodes)
 
   -- a block of raw lines
   text_lines : (start stop : ℕ) (body : ItemBody) (places : List Place) (chain : List Item) (items : List (ℕ × Item)) → AreRawLines range_text d [] places chain
@@ -88,8 +88,7 @@ module _ (d : Document) (Inner : ItemBody → Type 0) (P : List (ℕ × Item) �
 
   -- a setext heading or a paragraph
   ended_holds : (start : ℕ) (marker : Option Item) (l : TextLines) (t : Taken) (o : Option (ℕ × HeadingLevel)) → IfSome marker (λ x. Inner x.body)
-      → AreEach Inner l.chain
-      → MatchOption o (t ≡ plain_text d start marker l) (λ underline. IsUnderlined d start marker l underline.1 t) → P t.items
+      → AreEach Inner l.chain → MatchOption o (t ≡ plain_text d start marker l) (λ underline. IsUnderlined d start marker l underline.1 t) → P t.items
   ended_holds start marker l t None mark h e =
       chain_holds start (start_of (length d.text) l.left) ParagraphBody (text_children marker l) t.items (ap (λ (z : Taken). z.items) e) refl tt
       (children_each Inner tokens.text marker l mark h)
@@ -153,18 +152,12 @@ module _ (d : Document) (At : Place → Type 0) (Inner : ItemBody → Type 0) (P
       subst (LeafHolds P) (sym e) (text_lines d Inner P blocks _ _ (FencedCodeBlock is.info) _ is.chain items is.lines is.items_are refl entry)
   leaf_holds path p lines LinkDefinitions o i h (xs, Ended q left, run, e) = subst (LeafHolds P) (sym e) blocks.none
   leaf_holds path p lines LinkDefinitions o i h (xs, FlowsOn q more, run, (t, is, e)) =
-      let there = run_left At holds.kept (around d path) (unindented p) lines xs (FlowsOn q more) (at_unindented At holds.kept p i) h run in
+      let there = run_left At holds.kept (HoldsAtEach At) (λ line lines h. h.0) (λ line lines h. h.1) (around d path) (unindented p) lines xs (FlowsOn q more)
+      (at_unindented At holds.kept p i) h run in
       subst (LeafHolds P) (sym e) (text_holds path q None more t there.0 tt is)
-  leaf_holds path p lines Paragraph o i h (t, is, e) =
-      subst (LeafHolds P) (sym e) (text_holds path (unindented p) None lines t (at_unindented At holds.kept p i) tt is)
+  leaf_holds path p lines Paragraph o i h (t, is, e) = grind (arith, text_holds, at_unindented)
 
   -- what opens in a sequence
   pub openings : (M : ItemBody → Type 0) → ((checked : Bool) → M (TaskListMarker checked)) → ((body : ItemBody) → M body → Inner body)
       → ((marker : Item) → M marker.body → P ((0, marker) ∷ [])) → HoldsOfOpenings d At M P AnyHead
-  openings M task inner mark = record {
-    containers = record { kept = holds.kept; task = task; plain = λ head none. tt };
-    kind = λ path p lines k o i h is opens. leaf_holds path p lines (kind_in (around d path) p k) o i h opens;
-    text = λ path p marker lines t i own is. text_holds path p (Some marker) lines t i (inner marker.body own) is;
-    mark = mark;
-    footnote = λ c p head index i is named. tt;
-  }
+  openings M task inner mark = grind (arith, leaf_holds, text_holds)

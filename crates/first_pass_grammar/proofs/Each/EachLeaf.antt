@@ -1,5 +1,5 @@
 -- A property of the bodies in leaf blocks holds for the items of each leaf block of a derived tree.
-use Rattle.std.proofs.Common.{◌≡◌, ℕ, ◌||◌, Bool, true, List, [], ◌∷◌, refl, sym, subst}
+use Rattle.std.proofs.Common.{◌≡◌, ℕ, ◌||◌, Bool, true, List, [], ◌∷◌, refl, sym, subst, arith}
 use Rattle.first_pass_grammar.proofs.Common.{or_left, or_right, Item, ItemBody, Table, TaskListMarker, lines_at, nothing, is_row, is_cell, Tables, Derives}
 use Rattle.first_pass_grammar.proofs.Common.{Document, Line, level, Lines, AreEachNode}
 use Rattle.first_pass_grammar.proofs.Each.EachBlock.{is_first, is_later, HoldsOfBlocks, HoldsOfLeaves, table_nodes, openings}
@@ -7,11 +7,12 @@ use Rattle.first_pass_grammar.proofs.Each.EachCell.{deeper_nodes}
 use Rattle.first_pass_grammar.proofs.Each.EachOpening.{HoldsOfEachLeaf, AnyHead, each_opened}
 use Rattle.first_pass_grammar.proofs.Sequences.PlacesKept.{Anywhere, anywhere_kept, each_anywhere}
 
--- the first body of a leaf block; the next definition: a later one
+-- the first body of a leaf block
 abbrev pub begins_block : ItemBody → Bool
 begins_block (Table index) = true
 begins_block body = is_first body
 
+-- a later body of a leaf block
 abbrev pub is_inner : ItemBody → Bool
 is_inner body = is_later body || (is_row body || is_cell body)
 
@@ -31,11 +32,7 @@ module _ (Own Inner : ItemBody → Type 0) (d : Document) (own : (body : ItemBod
   IsBlock items = IsBlockOf Own Inner items
 
   blocks : HoldsOfBlocks d Inner IsBlock
-  blocks = record {
-    later = λ body is entry. inner body (or_left (is_later body) (is_row body || is_cell body) is);
-    block = λ x kids first entry h. (refl, own x.body (first_begins x.body first), deeper_nodes Inner 1 kids h);
-    none = tt;
-  }
+  blocks = grind (arith, or_left, first_begins, deeper_nodes)
 
   leaves : HoldsOfLeaves d Anywhere Inner IsBlock
   leaves = record {

@@ -1,72 +1,73 @@
 -- A property of each leaf block, by how it begins, and one of the head of each container hold in a derived sequence.
-use Rattle.std.proofs.Common.{◌≡◌, ℕ, Bool, List, [], ◌∷◌, length, Option, Some, None, MatchOption, IfSome, refl, sym, subst, if◌then◌else◌}
-use Rattle.first_pass_grammar.proofs.Common.{cond_both, has, gfm_footnotes, CowIndex, Item, ItemBody, TaskListMarker, Place, offset, start_of, Rest, indent}
-use Rattle.first_pass_grammar.proofs.Common.{task_of, Leaf, BlankLine, Block, Opener, FootnoteMarker, Head, label_of, opened, Skeleton, Nil, Then, Node}
-use Rattle.first_pass_grammar.proofs.Common.{fence_judge, metadata_judge, Context, at_rest, front, footnote_columns, in_containers, footnote_head_at}
-use Rattle.first_pass_grammar.proofs.Common.{label_bytes, NamesLabel, place_past, tag_judge, blank_judge, Kind, Blank, IndentedCode, Metadata, HtmlToEnd}
-use Rattle.first_pass_grammar.proofs.Common.{HtmlToBlank, ThematicBreak, AtxHeading, FencedCode, LinkDefinitions, IsKind, unindented, is_blank_rest}
-use Rattle.first_pass_grammar.proofs.Common.{is_ordinary_after_tag, Document, around, kind_in, lines_beyond, Ended, FlowsOn, Start, start_at, task_by}
-use Rattle.first_pass_grammar.proofs.Common.{task_after, tag_after, Continues, Line, Blanks, AtPlace, Anything, OnlyALeaf, TextOf, OnlyMark, after_marker}
-use Rattle.first_pass_grammar.proofs.Common.{Opening, OpensLeaf, OpensNode, OpensText, OpensRun, OpensAs, OpensBlockAt, next_is_blank, only_task, after_tag}
-use Rattle.first_pass_grammar.proofs.Common.{opening_by, opening_of, OpensBy, OpensFootnote, Opens, OpensAt, may_define, Level, level_in, level_after_leaf}
-use Rattle.first_pass_grammar.proofs.Common.{level_after, Remaining, Lines, InLine, onward, after_first, IsFirst, IsSequence, Taken, IsText}
+use Rattle.std.proofs.Common.{◌≡◌, ℕ, Bool, List, [], ◌∷◌, length, Option, Some, None, MatchOption, IfSome, refl, sym, subst, if◌then◌else◌, arith}
+use Rattle.first_pass_grammar.proofs.Common.{cond_both, has, gfm_footnotes, CowIndex, Item, ItemBody, TaskListMarker, Place, offset, Rest, indent, task_of}
+use Rattle.first_pass_grammar.proofs.Common.{Leaf, BlankLine, Block, Opener, FootnoteMarker, Head, label_of, opened, Skeleton, Nil, Then, Node, fence_judge}
+use Rattle.first_pass_grammar.proofs.Common.{metadata_judge, Context, at_rest, footnote_columns, in_containers, footnote_head_at, label_bytes, NamesLabel}
+use Rattle.first_pass_grammar.proofs.Common.{place_past, tag_judge, blank_judge, Kind, Blank, IndentedCode, Metadata, HtmlToEnd, HtmlToBlank, ThematicBreak}
+use Rattle.first_pass_grammar.proofs.Common.{AtxHeading, FencedCode, LinkDefinitions, IsKind, unindented, is_blank_rest, Document, around, kind_in}
+use Rattle.first_pass_grammar.proofs.Common.{lines_beyond, Ended, FlowsOn, Start, start_at, task_by, task_after, tag_after, Continues, Line, Blanks, AtPlace}
+use Rattle.first_pass_grammar.proofs.Common.{Anything, OnlyALeaf, TextOf, OnlyMark, after_marker, Opening, OpensLeaf, OpensNode, OpensText, OpensRun, OpensAs}
+use Rattle.first_pass_grammar.proofs.Common.{OpensBlockAt, only_task, after_tag, opening_by, opening_of, OpensBy, OpensFootnote, Opens, OpensAt, may_define}
+use Rattle.first_pass_grammar.proofs.Common.{Level, level_in, level_after_leaf, level_after, Remaining, Lines, InLine, onward, after_first, IsFirst}
+use Rattle.first_pass_grammar.proofs.Common.{IsSequence, Taken, IsText, holds_end, IsLast, GoesOn, extent_by, Extent, extent}
 use Rattle.first_pass_items.specs.OptionWords.{tasklists}
 use Rattle.first_pass_grammar.specs.declared.kind.AfterMarker.{AfterMarker}
 use Rattle.first_pass_grammar.specs.declared.kind.AfterMarker.TheVariants.{OnLine, TaskText, LineEnds, OnlyTag}
 use Rattle.first_pass_grammar.specs.declared.kind.Container.{Container}
-use Rattle.first_pass_grammar.specs.HtmlBlocks.{tag_verdict}
 use Rattle.first_pass_grammar.specs.Kinds.{Paragraph}
-use Rattle.first_pass_grammar.specs.Skeleton.{Allowed}
-use Rattle.first_pass_grammar.specs.Skeleton.{without_indent}
-use Rattle.first_pass_grammar.specs.Skeleton.{OpensIf}
+use Rattle.first_pass_grammar.specs.Skeleton.{Allowed, without_indent, OpensIf}
 use Rattle.first_pass_grammar.proofs.Sequences.AfterMarkers.{HoldsAfter, after_task_holds, after_quote_holds}
 use Rattle.first_pass_grammar.proofs.Sequences.Goings.{BeginsAt, LeavesAt, begins_at, leaves_at}
 use Rattle.first_pass_grammar.proofs.Sequences.LinesLeft.{beyond_left, head_left, run_left, text_left}
 use Rattle.first_pass_grammar.proofs.Sequences.OpenerFacts.{start_cases}
 use Rattle.first_pass_grammar.proofs.Sequences.PlacesKept.{HoldsAtEach, IsKeptLater, at_unindented, at_front, at_taken, at_quote, at_item, at_marker}
-use Rattle.first_pass_grammar.proofs.Sequences.PlacesKept.{verdict_left, extent_left, code_left}
+use Rattle.first_pass_grammar.proofs.Sequences.PlacesKept.{extent_left, code_left, IsKeptBelow}
+use Rattle.first_pass_lines.specs.Places.{line_of}
 
--- a property of the items of a leaf; the next definitions: of the leaf that opens, if one does, and of each leaf block
--- in a sequence
+-- a property of the items of a leaf
 abbrev pub HoldsOfLeaf : (List (ℕ × Item) → Type 0) → Leaf → Type 0
 HoldsOfLeaf P BlankLine = Unit {0}
 HoldsOfLeaf P (Block b) = P b.items
 
+-- a property of the items of the leaf that opens, if one does
 abbrev pub LeafHolds : (List (ℕ × Item) → Type 0) → Opening → Type 0
 LeafHolds P (OpensLeaf leaf there left) = HoldsOfLeaf P leaf
 LeafHolds P (OpensNode head inside following) = Unit {0}
 
+-- a property of the items of each leaf block in a sequence
 unfoldable pub HoldsOfEachLeaf : (List (ℕ × Item) → Type 0) → Skeleton → Type 0
 HoldsOfEachLeaf P Nil = Unit {0}
 HoldsOfEachLeaf P (Then leaf next) = HoldsOfLeaf P leaf × HoldsOfEachLeaf P next
 HoldsOfEachLeaf P (Node head e kids next) = HoldsOfEachLeaf P kids × HoldsOfEachLeaf P next
 
--- a property of the head of each container in a sequence; the next definition: no such property
+-- a property of the head of each container in a sequence
 unfoldable pub HoldsOfEachHead : (Head → Type 0) → Skeleton → Type 0
 HoldsOfEachHead Q Nil = Unit {0}
 HoldsOfEachHead Q (Then leaf next) = HoldsOfEachHead Q next
 HoldsOfEachHead Q (Node head e kids next) = Q head × HoldsOfEachHead Q kids × HoldsOfEachHead Q next
 
+-- no property of a head
 abbrev pub AnyHead : Head → Type 0
 AnyHead head = Unit {0}
 
--- a property of the task list item marker that may begin a text, if there is one; the next definition: and one of the
--- place where blocks continue
+-- a property of the task list item marker that may begin a text, if there is one
 abbrev pub HoldsOfMay : (ItemBody → Type 0) → Allowed → Type 0
 HoldsOfMay M Anything = Unit {0}
 HoldsOfMay M OnlyALeaf = Unit {0}
 HoldsOfMay M (TextOf marker) = M marker.body
 HoldsOfMay M (OnlyMark marker blanks) = M marker.body
 
+-- the same, and a property of the place where blocks continue
 abbrev pub HoldsFrom : (Place → Type 0) → (ItemBody → Type 0) → Continues → Type 0
 HoldsFrom At M Line = Unit {0}
 HoldsFrom At M (Blanks e) = Unit {0}
 HoldsFrom At M (AtPlace p may) = At p × HoldsOfMay M may
 
--- the same where blocks continue and at the lines after that; the next definition: after what a sequence leaves
+-- the same where blocks continue and at the lines after that
 abbrev pub HoldsOn : (Place → Type 0) → (ItemBody → Type 0) → Continues × List Place → Type 0
 HoldsOn At M there = HoldsFrom At M there.0 × HoldsAtEach At there.1
 
+-- the same after what a sequence leaves
 abbrev pub HoldsOfLeft : (Place → Type 0) → (ItemBody → Type 0) → Remaining → Type 0
 HoldsOfLeft At M left = HoldsOn At M (onward left)
 
@@ -108,23 +109,14 @@ module _ (d : Document) (At : Place → Type 0) (M : ItemBody → Type 0) (Q : H
 
   tag_on : (c : Context) (lines : List Place) → HoldsAtEach At lines → HoldsOn At M (after_tag c lines)
   tag_on c [] h = (tt, tt)
-  tag_on c (line ∷ lines) h =
-      cond_both (is_ordinary_after_tag c line.rest) (Line, line ∷ lines) (AtPlace (unindented (at_rest line (front c.path line.rest))) OnlyALeaf, lines)
-      (HoldsOn At M) (λ b. (tt, h)) (λ b. ((at_front At holds.kept c.path line h.0, tt), h.1))
+  tag_on c (line ∷ lines) h = grind (arith, cond_both, at_front)
 
   opening_holds : (path : List Container) (head : Head) (inside : Place) (lines : List Place) (after : AfterMarker) → label_of head.opener ≡ []
       → HoldsAfter HoldsOfMark after → At inside → HoldsAtEach At lines → OpensContainer At M Q (opening_by d path head inside lines after)
   opening_holds path head inside lines OnLine none task i h = (holds.plain head none, (i, tt), h)
   opening_holds path head inside lines (TaskText marker) none task i h = (holds.plain head none, (i, task), h)
-  opening_holds path head inside lines (LineEnds marker) none task i h =
-      let blanks : Option ℕ = Some (start_of (length d.text) lines) in
-      let short : Head = record head { opener = without_indent head.opener } in
-      cond_both (next_is_blank (opened head.opener ∷ path) lines) (OpensNode short (only_task marker inside blanks) lines)
-      (OpensNode head (only_task marker inside None) lines) (OpensContainer At M Q)
-      (λ b. (holds.plain short (no_label head.opener none), alone_from marker inside blanks task i, h))
-      (λ b. (holds.plain head none, alone_from marker inside None task i, h))
-  opening_holds path head inside lines OnlyTag none task i h =
-      let there = tag_on (around d (opened head.opener ∷ path)) lines h in (holds.plain head none, there.0, there.1)
+  opening_holds path head inside lines (LineEnds marker) none task i h = grind (arith, cond_both, no_label, alone_from)
+  opening_holds path head inside lines OnlyTag none task i h = grind (arith, tag_on)
 
   -- the start of a container has no label
   abbrev IsStart : Place → Start → Type 0
@@ -144,8 +136,42 @@ module _ (d : Document) (At : Place → Type 0) (M : ItemBody → Type 0) (Q : H
 
   pub container_opens : (path : List Container) (p : Place) (lines : List Place) (may : Bool) (s : Start) → At p → HoldsAtEach At lines
       → start_at d.options may p ≡ Some s → OpensContainer At M Q (opening_of d path p lines s)
-  container_opens path p lines may s i h is =
-      let now = start_is may p i s is in opening_holds path s.head (at_rest p s.rest) lines s.after now.0 now.1 now.2 h
+  container_opens path p lines may s i h is = grind (arith, start_is, opening_holds)
+
+-- after a leaf block, blocks continue at the next line, and the lines from there on have a property
+abbrev pub LeavesLines : (List Place → Type 0) → Opening → Type 0
+LeavesLines L (OpensLeaf leaf there left) = (there ≡ Line) × L left
+LeavesLines L (OpensNode head inside following) = ⊥
+
+-- they have it if the lines after the first line of a block always do
+module _ (d : Document) (At : Place → Type 0) (kept : IsKeptLater At) (L : List Place → Type 0)
+    (first : (line : Place) (lines : List Place) → L (line ∷ lines) → At line) (further : IsKeptBelow L) where
+  pub leaf_lines : (path : List Container) (p : Place) (lines : List Place) (kind : Kind) (o : Opening) → At p → L lines
+      → OpensAs d path p lines kind o → LeavesLines L o
+  unfolding OpensAs OpensRun OpensText
+  leaf_lines path p lines Blank o i h e = subst (LeavesLines L) (sym e) (refl, h)
+  leaf_lines path p lines IndentedCode o i h (items, is, e) = subst (LeavesLines L) (sym e) (refl, code_left L further path lines h)
+  leaf_lines path p lines (Metadata byte) o i h (items, is, e) =
+      subst (LeavesLines L) (sym e) (refl, extent_left L further (in_containers path (metadata_judge byte)) (length d.text) lines h)
+  leaf_lines path p lines HtmlToEnd o i h (until, found, (items, is, e)) =
+      let rest : Extent = extent (in_containers path (tag_judge until)) (length d.text) lines in
+      let last = extent_left L further (in_containers path (tag_judge until)) (length d.text) lines h in
+      let left = cond_both (holds_end until (line_of (unindented p))) (IsLast (unindented p)) (GoesOn (unindented p))
+      (λ v. L (extent_by v (unindented p) lines rest).left) (λ b. h) (λ b. last) in
+      subst (LeavesLines L) (sym e) (refl, left)
+  leaf_lines path p lines HtmlToBlank o i h (items, is, e) =
+      subst (LeavesLines L) (sym e) (refl, extent_left L further (in_containers path blank_judge) (length d.text) lines h)
+  leaf_lines path p lines (ThematicBreak size) o i h e = subst (LeavesLines L) (sym e) (refl, h)
+  leaf_lines path p lines (AtxHeading level) o i h (index, chain, stop, is, e) = subst (LeavesLines L) (sym e) (refl, h)
+  leaf_lines path p lines (FencedCode count byte) o i h (items, is, e) =
+      subst (LeavesLines L) (sym e) (refl, extent_left L further (in_containers path (fence_judge (indent p.rest) byte count)) (length d.text) lines h)
+  leaf_lines path p lines LinkDefinitions o i h (xs, Ended q left, run, e) =
+      subst (LeavesLines L) (sym e)
+      (refl, run_left At kept L first further (around d path) (unindented p) lines xs (Ended q left) (at_unindented At kept p i) h run)
+  leaf_lines path p lines LinkDefinitions o i h (xs, FlowsOn q more, run, (t, is, e)) =
+      let there = run_left At kept L first further (around d path) (unindented p) lines xs (FlowsOn q more) (at_unindented At kept p i) h run in
+      subst (LeavesLines L) (sym e) (refl, text_left L further d path q None more t there.1 is)
+  leaf_lines path p lines Paragraph o i h (t, is, e) = subst (LeavesLines L) (sym e) (refl, text_left L further d path (unindented p) None lines t h is)
 
 -- The properties hold of each leaf block and each head by how they begin: a leaf block of a kind, a text after a task
 -- list item marker, such a marker alone, or a footnote definition.
@@ -170,47 +196,17 @@ module _ (d : Document) (At : Place → Type 0) (M : ItemBody → Type 0) (P : L
   node_opened (OpensLeaf leaf there left) h = absurd h
   node_opened (OpensNode head inside following) h = h
 
-  -- after a leaf block, blocks continue at the next line
-  abbrev LeavesLines : Opening → Type 0
-  LeavesLines (OpensLeaf leaf there left) = (there ≡ Line) × HoldsAtEach At left
-  LeavesLines (OpensNode head inside following) = ⊥
-
   abbrev kept : IsKeptLater At
   kept = holds.containers.kept
 
-  leaf_lines : (path : List Container) (p : Place) (lines : List Place) (kind : Kind) (o : Opening) → At p → HoldsAtEach At lines
-      → OpensAs d path p lines kind o → LeavesLines o
-  unfolding OpensAs OpensRun OpensText
-  leaf_lines path p lines Blank o i h e = subst LeavesLines (sym e) (refl, h)
-  leaf_lines path p lines IndentedCode o i h (items, is, e) = subst LeavesLines (sym e) (refl, code_left At path lines h)
-  leaf_lines path p lines (Metadata byte) o i h (items, is, e) =
-      subst LeavesLines (sym e) (refl, extent_left At (in_containers path (metadata_judge byte)) (length d.text) lines h)
-  leaf_lines path p lines HtmlToEnd o i h (until, found, (items, is, e)) =
-      subst LeavesLines (sym e) (
-        refl,
-        verdict_left At (tag_verdict until (unindented p)) (unindented p) lines _ (at_unindented At kept p i, h)
-            (extent_left At (in_containers path (tag_judge until)) (length d.text) lines h),
-      )
-  leaf_lines path p lines HtmlToBlank o i h (items, is, e) =
-      subst LeavesLines (sym e) (refl, extent_left At (in_containers path blank_judge) (length d.text) lines h)
-  leaf_lines path p lines (ThematicBreak size) o i h e = subst LeavesLines (sym e) (refl, h)
-  leaf_lines path p lines (AtxHeading level) o i h (index, chain, stop, is, e) = subst LeavesLines (sym e) (refl, h)
-  leaf_lines path p lines (FencedCode count byte) o i h (items, is, e) =
-      subst LeavesLines (sym e) (refl, extent_left At (in_containers path (fence_judge (indent p.rest) byte count)) (length d.text) lines h)
-  leaf_lines path p lines LinkDefinitions o i h (xs, Ended q left, run, e) =
-      subst LeavesLines (sym e) (refl, run_left At kept (around d path) (unindented p) lines xs (Ended q left) (at_unindented At kept p i) h run)
-  leaf_lines path p lines LinkDefinitions o i h (xs, FlowsOn q more, run, (t, is, e)) =
-      let there = run_left At kept (around d path) (unindented p) lines xs (FlowsOn q more) (at_unindented At kept p i) h run in
-      subst LeavesLines (sym e) (refl, text_left At kept d path q None more t there.1 is)
-  leaf_lines path p lines Paragraph o i h (t, is, e) = subst LeavesLines (sym e) (refl, text_left At kept d path (unindented p) None lines t h is)
-
-  leaf_opened : (o : Opening) → LeafHolds P o → LeavesLines o → Opened o
+  leaf_opened : (o : Opening) → LeafHolds P o → LeavesLines (HoldsAtEach At) o → Opened o
   leaf_opened (OpensLeaf leaf there left) own h = (own, subst (HoldsFrom At M) (sym h.0) tt, h.1)
   leaf_opened (OpensNode head inside following) own h = absurd h
 
   block_opened : (path : List Container) (p : Place) (lines : List Place) (o : Opening) → At p → HoldsAtEach At lines → OpensBlockAt d path p lines o → Opened o
   block_opened path p lines o i h (k, is, opens) =
-      leaf_opened o (holds.kind path p lines k o i h is opens) (leaf_lines path p lines (kind_in (around d path) p k) o i h opens)
+      leaf_opened o (holds.kind path p lines k o i h is opens)
+      (leaf_lines d At kept (HoldsAtEach At) (λ line lines h. h.0) (λ line lines h. h.1) path p lines (kind_in (around d path) p k) o i h opens)
 
   start_opened : (path : List Container) (p : Place) (lines : List Place) (q : Option Start) (o : Opening)
       → ((s : Start) → q ≡ Some s → OpensContainer At M Q (opening_of d path p lines s)) → At p → HoldsAtEach At lines → OpensBy d path p lines q o → Opened o
@@ -227,8 +223,8 @@ module _ (d : Document) (At : Place → Type 0) (M : ItemBody → Type 0) (P : L
       (λ s e. container_opens d At M Q holds.containers l.path p lines (may_define d l) s i h e) i h opens
   head_opened l p lines (Some (size, label)) o is i h (index, named, e) =
       let q : Place = place_past size (unindented p) in
-      let there = head_left At kept (gfm_footnotes d.options) q (lines_beyond (offset q) lines) (kept.past size (unindented p) (at_unindented At kept p i))
-      (beyond_left At kept (offset q) lines h) in
+      let there = head_left At kept (HoldsAtEach At) (λ line lines h. h.0) (λ line lines h. h.1) (gfm_footnotes d.options) q (lines_beyond (offset q) lines)
+      (kept.past size (unindented p) (at_unindented At kept p i)) (beyond_left (HoldsAtEach At) (λ line lines h. h.1) (offset q) lines h) in
       subst Opened (sym e) (holds.footnote (around d l.path) p (size, label) index i is named, (there.0, tt), there.1)
 
   any_opened : (l : Level) (p : Place) (lines : List Place) (o : Opening) → At p → HoldsAtEach At lines → Opens d l p lines o → Opened o
@@ -243,7 +239,7 @@ module _ (d : Document) (At : Place → Type 0) (M : ItemBody → Type 0) (P : L
       subst Opened (sym e) (
         holds.text l.path (unindented p) marker lines t (at_unindented At kept p i) task is,
         tt,
-        text_left At kept d l.path (unindented p) (Some marker) lines t h is,
+        text_left (HoldsAtEach At) (λ line lines h. h.1) d l.path (unindented p) (Some marker) lines t h is,
       )
   may_opened l (OnlyMark marker blanks) p lines o task i h e = subst Opened (sym e) (holds.mark marker task, tt, h)
 

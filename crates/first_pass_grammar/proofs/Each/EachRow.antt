@@ -1,11 +1,11 @@
 -- A property of the items of each leaf block in a sequence holds for each leaf block in its rows.
-use Rattle.std.proofs.Common.{◌≡◌, ℕ, ◌==◌, Bool, true, false, List, [], ◌∷◌, length, map, Option, Some, None, refl, if◌then◌else◌, option_map}
+use Rattle.std.proofs.Common.{◌≡◌, ℕ, ◌==◌, Bool, true, false, List, [], ◌∷◌, length, map, Option, Some, None, if◌then◌else◌, option_map, arith}
 use Rattle.first_pass_grammar.proofs.Common.{option_map_or, cond_both, Item, ItemBody, tight_body, tightened, Before, nothing, after_blank, after_block}
 use Rattle.first_pass_grammar.proofs.Common.{begins_paragraph, LeafBlock, BlankLine, Block, Opener, QuoteMarker, ItemMarker, FootnoteMarker}
 use Rattle.first_pass_grammar.proofs.Common.{DefinitionMarker, opened, Skeleton, Nil, Then, Node, is_quote, Tables, Derives, Document, What, ALeaf, ATitle}
-use Rattle.first_pass_grammar.proofs.Common.{Row, Rows, End, OneOf, gapped, Joins, ItemsOf, DefinitionsTo, end_of_row, continues_list, items_after}
+use Rattle.first_pass_grammar.proofs.Common.{Row, Rows, End, OneOf, gapped, Joins, continues_list, items_after}
 use Rattle.first_pass_grammar.proofs.Common.{list_after, what_of, row_of, container_row, row_of_leaf, Definitions, definitions_of_row, apart_after}
-use Rattle.first_pass_grammar.proofs.Common.{is_untitled, is_run_row, definitions_first, titled, gap_before, rows_of, AreEachNode}
+use Rattle.first_pass_grammar.proofs.Common.{is_untitled, is_run_row, definitions_first, titled, rows_of, AreEachNode}
 use Rattle.first_pass_grammar.proofs.Each.EachLeaf.{begins_block, is_inner, IsBlockOf, derived_leaves}
 use Rattle.first_pass_grammar.proofs.Each.EachOpening.{HoldsOfEachLeaf}
 
@@ -40,8 +40,7 @@ module _ (P : List (ℕ × Item) → Type 0) where
   pub items_rows : (joins : Joins) (rows : Rows) → HoldsOfEachRow P rows → HoldsOfEachRow P (items_after joins rows)
   unfolding HoldsOfEachRow
   items_rows joins End h = tt
-  items_rows joins (OneOf row inner next) h =
-      cond_both (continues_list joins row.what) _ _ (HoldsOfEachRow P) (λ b. gapped_rows row.gap inner h.1) (λ b. tt)
+  items_rows joins (OneOf row inner next) h = grind (arith, cond_both, gapped_rows)
 
   pub list_rows : (joins : Joins) (rows : Rows) → HoldsOfEachRow P rows → HoldsOfEachRow P (list_after joins rows)
   unfolding HoldsOfEachRow
@@ -53,12 +52,9 @@ module _ (P : List (ℕ × Item) → Type 0) where
       → HoldsOfEachRow P next → HoldsOfEachRow P (container_row last opener row inner next)
   unfolding HoldsOfEachRow
   container_rows last (QuoteMarker kind) row inner next own h k = (own, h, k)
-  container_rows last (ItemMarker byte number columns) row inner next own h k =
-      (tt, (own, h, items_rows (ItemsOf byte) next k), list_rows (ItemsOf byte) next k)
+  container_rows last (ItemMarker byte number columns) row inner next own h k = grind (arith, items_rows, list_rows)
   container_rows last (FootnoteMarker columns index label) row inner next own h k = (own, h, k)
-  container_rows last (DefinitionMarker columns) row inner next own h k =
-      let joins : Joins = DefinitionsTo (end_of_row row.what last) in
-      (tt, (own, h, items_rows joins next k), list_rows joins next k)
+  container_rows last (DefinitionMarker columns) row inner next own h k = grind (arith, items_rows, list_rows)
 
   container_what : (opener : Opener) (e : ℕ) (inner : Rows) → HoldsOfRow P (what_of opener e) inner
   container_what (QuoteMarker kind) e inner = tt
@@ -92,9 +88,7 @@ module _ (P : List (ℕ × Item) → Type 0) where
   unfolding HoldsOfEachLeaf HoldsOfEachRow rows_of
   each_row quoted before last Nil h = tt
   each_row quoted before last (Then BlankLine next) h = each_row quoted (after_blank quoted before) last next h.1
-  each_row quoted before last (Then (Block block) next) h =
-      let more = each_row quoted (after_block before block) last next h.1 in
-      titled_rows block (gap_before before block) (begins_paragraph block.items) _ _ refl h.0 (first_rows _ more) more
+  each_row quoted before last (Then (Block block) next) h = grind (arith, titled_rows, first_rows, each_row quoted (after_block before block) last next h.1)
   each_row quoted before last (Node head e kids next) h =
       container_rows last head.opener (row_of head e before.counted) _ _ (container_what head.opener e _)
       (each_row (is_quote (opened head.opener)) nothing e kids h.0) (each_row quoted _ last next h.1)

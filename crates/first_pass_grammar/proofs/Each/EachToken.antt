@@ -1,20 +1,17 @@
 -- A property of each token holds for each item in the chain of a paragraph, a heading or a cell, and in raw lines.
-use Rattle.std.proofs.Common.{◌≡◌, inl, inr, ℕ, zero, suc, ◌+◌, ◌-◌, ◌<◌, ◌==◌, ◌&&◌, Bool, true, false, nat_lt, nat_le, min, List, [], ◌∷◌, ◌++◌, length}
-use Rattle.std.proofs.Common.{Option, Some, None, IfSome, sym, subst, refl}
+use Rattle.std.proofs.Common.{◌≡◌, inl, inr, ℕ, zero, suc, ◌+◌, ◌<◌, ◌==◌, ◌&&◌, Bool, true, false, nat_lt, nat_le, min, List, [], ◌∷◌, ◌++◌, length, Option}
+use Rattle.std.proofs.Common.{Some, None, IfSome, sym, subst, refl, arith}
 use Rattle.first_pass_grammar.proofs.Common.{cond_both, slice_get_within, CowStr, CowIndex, Item, ItemBody, Text, SoftBreak, HardBreak, MaybeEmphasis, Html}
 use Rattle.first_pass_grammar.proofs.Common.{SynthesizeText, is_escaped, Place, offset, line_end, Piece, Token, Inline, found_at, MathBraces, Spot, spot}
-use Rattle.first_pass_grammar.proofs.Common.{add_pieces, text_end, line_end_len, breaks_by_backslash, blanks_at_end, AreLineTokens, IsCell, text_token}
-use Rattle.first_pass_grammar.proofs.Common.{touches, add_token, add_tokens, add_text, is_backslash_break, close_break, cut, is_markup, at_rest, front}
-use Rattle.first_pass_grammar.proofs.Common.{unindented, Document, content_at, add_break, heading_content, heading_chain, IsHeading, marker_items}
-use Rattle.first_pass_grammar.proofs.Common.{TextLines, AreTextLines, AreColumns, Ranges, range_text, range_html, ends_with_both, raw_items, IsRawLine}
-use Rattle.first_pass_grammar.proofs.Common.{AreRawLines, text_children, by_backslash, heading_bytes, children_without, heading_children, kept_before}
-use Rattle.first_pass_grammar.proofs.Common.{heading_attribute_block, Braces, HeadingIndex}
+use Rattle.first_pass_grammar.proofs.Common.{add_pieces, AreLineTokens, IsCell, touches, add_token, add_tokens, add_text, is_backslash_break, close_break}
+use Rattle.first_pass_grammar.proofs.Common.{cut, is_markup, at_rest, front, unindented, Document, content_at, add_break, heading_content, heading_chain}
+use Rattle.first_pass_grammar.proofs.Common.{IsHeading, marker_items, TextLines, AreTextLines, AreColumns, Ranges, range_text, range_html, raw_items}
+use Rattle.first_pass_grammar.proofs.Common.{IsRawLine, AreRawLines, text_children, by_backslash, children_without, heading_children, Braces, HeadingIndex}
 use Rattle.first_pass_tokens.specs.declared.pieces.Piece.TheVariants.{Left, Begins, Run}
 use Rattle.first_pass_tokens.specs.Pieces.{size}
 use Rattle.first_pass_tokens.specs.Braces.{braces_after}
-use Rattle.first_pass_tokens.specs.LineTokens.{ArePieces, add_piece}
-use Rattle.first_pass_tokens.specs.LineTokens.{break_of, line_break}
-use Rattle.first_pass_tokens.specs.Chains.{token, run_tokens}
+use Rattle.first_pass_tokens.specs.LineTokens.{ArePieces, add_piece, break_of, line_break}
+use Rattle.first_pass_tokens.specs.Chains.{run_tokens}
 use Rattle.first_pass_tokens.proofs.PieceFacts.{IsPieceAt}
 use Rattle.first_pass_tokens.proofs.LineLemmas.{piece_of}
 use Rattle.first_pass_grammar.specs.declared.kind.Container.{Container}
@@ -55,22 +52,18 @@ module _ (P : ItemBody → Type 0) where
   -- the bytes of a raw line
   pub raw_each : (range : Ranges) (text : List ℕ) (from to : ℕ) → ((a b : ℕ) → AreEach P (range a b)) → AreEach P (raw_items range text from to)
   unfolding raw_items
-  raw_each range text from to each =
-      cond_both (ends_with_both text from to) _ _ (AreEach P)
-      (λ b. both_each (range from (to - 2)) (range (to - 1) to) (each from (to - 2)) (each (to - 1) to)) (λ b. each from to)
+  raw_each range text from to each = grind (arith, cond_both, both_each)
 
 module _ (P : ItemBody → Type 0) (text : (escaped : Bool) → P (Text escaped)) where
   pub range_text_each : (a b : ℕ) → AreEach P (range_text a b)
   range_text_each a b = cond_both (nat_lt a b) _ _ (AreEach P) (λ t. (text false, tt)) (λ t. tt)
 
   text_each : (from to : ℕ) (escaped : Bool) (chain : List Item) → AreEach P chain → AreEach P (add_text from to escaped chain)
-  text_each from to escaped chain h =
-      cond_both (nat_lt from to) _ _ (AreEach P) (λ b. token_each P chain (text_token from to escaped) h (text escaped)) (λ b. h)
+  text_each from to escaped chain h = grind (arith, cond_both, token_each)
 
   closed_each : (o : Option Item) (chain : List Item) → AreEach P chain → AreEach P (close_break o chain)
   closed_each None chain h = h
-  closed_each (Some x) chain h =
-      cond_both (is_backslash_break x.body) _ _ (AreEach P) (λ b. text_each x.start (x.start + 1) false chain h) (λ b. h)
+  closed_each (Some x) chain h = cond_both (is_backslash_break x.body) _ _ (AreEach P) (λ b. text_each x.start (x.start + 1) false chain h) (λ b. h)
 
   pub marked_each : (marker : Option Item) (chain : List Item) → IfSome marker (λ x. P x.body) → AreEach P chain → AreEach P (marker_items marker ++ chain)
   marked_each None chain h k = k
@@ -93,19 +86,14 @@ module _ (P : ItemBody → Type 0) (text : (escaped : Bool) → P (Text escaped)
 
   -- the children of a setext heading
   cut_children_each : (d : Document) (start : ℕ) (marker : Option Item) (t : TextLines) (o : Option Braces) → AreEach P (marker_items marker ++ t.chain)
-      → AreEach P (text_children marker t)
-      → AreEach P (children_without d start marker t o)
+      → AreEach P (text_children marker t) → AreEach P (children_without d start marker t o)
   cut_children_each d start marker t None h k = k
-  cut_children_each d start marker t (Some block) h k =
-      closed_each t.break _
-      (cut_each (start + kept_before (by_backslash t.break) block.opening (heading_bytes d start marker t)) (marker_items marker ++ t.chain) h)
+  cut_children_each d start marker t (Some block) h k = grind (arith, closed_each, cut_each)
 
   pub heading_children_each : (d : Document) (start : ℕ) (marker : Option Item) (t : TextLines) → IfSome marker (λ x. P x.body) → AreEach P t.chain
       → AreEach P (heading_children d start marker t)
   unfolding heading_children
-  heading_children_each d start marker t h k =
-      cut_children_each d start marker t (heading_attribute_block d.options (heading_bytes d start marker t)) (marked_each marker t.chain h k)
-      (children_each marker t h k)
+  heading_children_each d start marker t h k = grind (arith, cut_children_each, marked_each, children_each)
 
 -- breaks
 module _ (P : ItemBody → Type 0) (soft : P SoftBreak) (hard : (by_backslash : Bool) → P (HardBreak by_backslash)) where
@@ -115,13 +103,10 @@ module _ (P : ItemBody → Type 0) (soft : P SoftBreak) (hard : (by_backslash : 
 
   line_break_each : (s : Inline) (end : ℕ) → IfSome (line_break s end) (λ y. P y.body)
   unfolding line_break
-  line_break_each s end =
-      cond_both (nat_le (length s.text) end) None (Some _) (λ o. IfSome o (λ y. P y.body)) (λ b. tt)
-      (λ b. break_of_each end (end + line_end_len s end) (breaks_by_backslash s end) (blanks_at_end s end))
+  line_break_each s end = grind (arith, cond_both, break_of_each)
 
   pub break_each : {after : MathBraces} (texts : List CowStr) (s : Inline) (tokens : List Item) (answer : ℕ × Option Item)
-      → AreLineTokens texts s tokens answer after
-      → IfSome answer.1 (λ y. P y.body)
+      → AreLineTokens texts s tokens answer after → IfSome answer.1 (λ y. P y.body)
   break_each texts s tokens answer h = subst (λ (a : ℕ × Option Item). IfSome a.1 (λ y. P y.body)) (sym h.answer_is) (line_break_each s h.content_end)
 
 module _ (texts : List CowStr) (P : ItemBody → Type 0) (holds : HoldsOfTokens texts P) where
@@ -134,10 +119,8 @@ module _ (texts : List CowStr) (P : ItemBody → Type 0) (holds : HoldsOfTokens 
   piece_each : (text : List ℕ) (stop at : ℕ) (p : Piece) (chain : List Item) → IsPieceAt text at p → PieceWithin texts p → AreEach P chain
       → AreEach P (add_piece stop at p chain)
   piece_each text stop at (Left n) chain facts within h = text_each P holds.text at (min (at + n) stop) false chain h
-  piece_each text stop at (Begins dropped escaped) chain facts within h =
-      text_each P holds.text (at + dropped) (min (at + (dropped + 1)) stop) escaped chain h
-  piece_each text stop at (Token dropped n body) chain facts within h =
-      token_each P chain (token (at + dropped) n body) h (holds.markup body facts.kind within)
+  piece_each text stop at (Begins dropped escaped) chain facts within h = grind (arith, text_each)
+  piece_each text stop at (Token dropped n body) chain facts within h = grind (arith, token_each)
   piece_each text stop at (Run n opens closes) chain facts within h = tokens_each P chain (run_tokens at n opens closes) h (run_each at n opens closes)
 
   pub pieces_each : (s : Inline) (stop at : ℕ) (b : MathBraces) (ps : List Piece) (to : Spot) (chain : List Item) → ArePieces texts s at b ps to
@@ -150,14 +133,10 @@ module _ (texts : List CowStr) (P : ItemBody → Type 0) (holds : HoldsOfTokens 
   -- the tokens of a line, and of a cell
   pub line_each : {after : MathBraces} (s : Inline) (tokens : List Item) (answer : ℕ × Option Item) → AreLineTokens texts s tokens answer after
       → AreEach P tokens
-  line_each {after} s tokens answer h =
-      subst (AreEach P) (sym h.tokens_are)
-      (pieces_each s (text_end s h.content_end) s.start s.braces h.pieces (spot h.content_end after) [] h.division.divided tt)
+  line_each {after} s tokens answer h = grind (arith, pieces_each)
 
   pub cell_each : {after : MathBraces} (s : Inline) (tokens : List Item) (stop : ℕ) → IsCell texts s tokens stop after → AreEach P tokens
-  cell_each {after} s tokens stop h =
-      subst (AreEach P) (sym h.tokens_are)
-      (pieces_each s (stop - blanks_at_end s stop) s.start s.braces h.pieces (spot stop after) [] h.division.divided tt)
+  cell_each {after} s tokens stop h = grind (arith, pieces_each)
 
 module _ (P : ItemBody → Type 0) (d : Document) (holds : HoldsOfTokens d.names.texts P) where
   broken_each : (o : Option Item) (chain : List Item) → IfSome o (λ y. P y.body) → AreEach P chain → AreEach P (add_break o chain)
@@ -190,8 +169,7 @@ module _ (P : ItemBody → Type 0) (d : Document) (holds : HoldsOfTokens d.names
 module _ (P : ItemBody → Type 0) (d : Document) (raw : HoldsOfRaw d.names.texts P) where
   columns_each : (owed at : ℕ) (items : List Item) → AreColumns d.names owed at items → AreEach P items
   columns_each zero at items is = subst (AreEach P) (sym is) tt
-  columns_each (suc n) at items (ix, (named, at_ix, text), is) =
-      subst (AreEach P) (sym is) (raw.columns ix (slice_get_within d.names.texts ix.0 named at_ix), tt)
+  columns_each (suc n) at items (ix, (named, at_ix, text), is) = grind (arith, slice_get_within)
 
   pub range_html_each : (a b : ℕ) → AreEach P (range_html a b)
   range_html_each a b = (raw.html, tt)

@@ -1,6 +1,6 @@
 -- A table that takes link reference definitions in order finds the same entries as the definitions in the order of the
 -- text, and one that takes the labels of footnote definitions finds their first spellings.
-use Rattle.std.proofs.Common.{◌≡◌, ℕ, cond, List, [], ◌∷◌, Some, find, nat_eq, map-id, refl, sym, ap, subst, ◌∙◌}
+use Rattle.std.proofs.Common.{◌≡◌, ℕ, cond, List, [], ◌∷◌, Some, find, nat_eq, map-id, refl, sym, ap, subst, ◌∙◌, arith}
 use Rattle.first_pass_grammar.proofs.Common.{folded, LinkEntry, with_link, with_links, with_label, with_labels}
 use Rattle.std.specs.Cmp.Lexicographic.{pointwise}
 use Rattle.std.specs.List.Sorted.{IsStrictlySortedBy}
@@ -34,9 +34,7 @@ order_of_links definitions = subst IsInFoldedOrder (sym (put_links [] definition
 
 pub first_under : (f : List ℕ) (definitions : List LinkEntry) → link_under f (with_links [] definitions) ≡ link_under f definitions
 unfolding IsStrictlySortedBy
-first_under f definitions =
-    find_link f (with_links [] definitions) ∙ ap (find (has folded label_of f)) (put_links [] definitions)
-    ∙ under_all folded label_of f [] definitions tt ∙ sym (find_link f definitions)
+first_under f definitions = grind (arith, find_link, put_links, under_all)
 
 -- ---- labels of footnotes
 
@@ -65,6 +63,4 @@ order_of_labels labels =
 
 pub first_label : (f : List ℕ) (labels : List (List ℕ)) → label_under f (with_labels [] labels) ≡ label_under f labels
 unfolding IsStrictlySortedBy
-first_label f labels =
-    find_label f (with_labels [] labels) ∙ ap (find (has folded itself f)) (put_labels [] labels)
-    ∙ under_all folded itself f [] labels tt ∙ sym (find_label f labels)
+first_label f labels = grind (arith, find_label, put_labels, under_all)

@@ -3,12 +3,11 @@ use Rattle.std.proofs.Common.{◌≡◌, ℕ, zero, suc, true, List, ◌∷◌, 
 use Rattle.std.proofs.Common.{option_map}
 use Rattle.first_pass_grammar.proofs.Common.{slice_get_within, Item, ItemBody, modify, at_depth, Attributes, HeadingIndex, Place, leaves, Names}
 use Rattle.first_pass_grammar.proofs.Common.{NamesAttributes, Extends, TextAt, index_of, NamesEntry, AreNamed, Document, block_with, Ranges, range_text}
-use Rattle.first_pass_grammar.proofs.Common.{range_html, AreRawLines, false≢true, SynthesizeText, FencedCodeBlock, FootnoteDefinition, Table, Heading}
-use Rattle.first_pass_grammar.proofs.Common.{is_markup}
+use Rattle.first_pass_grammar.proofs.Common.{range_html, AreRawLines, SynthesizeText, is_markup}
 use Rattle.first_pass_grammar.specs.Names.{Index, AlignmentsAt, AttributesAt}
 use Rattle.first_pass_grammar.proofs.Names.TokensNamed.{NamesWithin}
 use Rattle.first_pass_grammar.proofs.Each.EachToken.{AreEach, HoldsOfTokens, HoldsOfRaw, range_text_each, raw_lines_each}
-use Rattle.first_pass_grammar.proofs.Names.NoIndex.{IsWithoutIndex, HaveNoIndex}
+use Rattle.first_pass_grammar.proofs.Names.NoIndex.{IsWithoutIndex, HaveNoIndex, markup_textual}
 
 -- the index of an item, if it has one, names an entry
 abbrev pub IsNamed : Names → Item → Type 0
@@ -46,15 +45,10 @@ named_modified names [] i g keeps h = tt
 named_modified names (n ∷ nodes) zero g keeps h = (keeps n.1 h.0, h.1)
 named_modified names (n ∷ nodes) (suc i) g keeps h = (h.0, named_modified names nodes i g keeps h.1)
 
--- a chain without indices
+-- a body without an index
 pub free_entry : (names : Names) (o : Option Index) → o ≡ None → NamesEntry names o
 free_entry names None h = tt
 free_entry names (Some ix) h = cc
-
-pub free_named : (names : Names) (chain : List Item) → HaveNoIndex chain → AreNamed names (leaves chain)
-unfolding AreNamed
-free_named names [] h = tt
-free_named names (x ∷ chain) h = (free_entry names (index_of x.body) h.0, free_named names chain h.1)
 
 -- a body whose index, if it has one, names an entry
 abbrev pub HasEntry : Names → ItemBody → Type 0
@@ -62,11 +56,7 @@ HasEntry names body = NamesEntry names (index_of body)
 
 pub markup_entered : (names : Names) (body : ItemBody) → is_markup body ≡ true → NamesWithin names.texts body → HasEntry names body
 markup_entered names (SynthesizeText ix) h k = k
-markup_entered names (FencedCodeBlock ix) h k = absurd (false≢true h)
-markup_entered names (FootnoteDefinition ix) h k = absurd (false≢true h)
-markup_entered names (Table ix) h k = absurd (false≢true h)
-markup_entered names (Heading level ix) h k = absurd (false≢true h)
-markup_entered names _ h k = tt
+markup_entered names body h k = free_entry names (index_of body) (markup_textual names.texts body h k)
 
 -- the tokens of lines have this property
 pub tokens_entered : (names : Names) → HoldsOfTokens names.texts (HasEntry names)
@@ -92,12 +82,16 @@ text_is_free = range_text_each IsWithoutIndex (λ escaped. refl)
 pub html_is_free : IsFree range_html
 html_is_free from to = (refl, tt)
 
+free_each : (names : Names) (chain : List Item) → HaveNoIndex chain → AreEach (HasEntry names) chain
+free_each names [] h = tt
+free_each names (x ∷ chain) h = (free_entry names (index_of x.body) h.0, free_each names chain h.1)
+
 pub lines_named : (range : Ranges) (d : Document) (chain : List Item) (places : List Place) (whole : List Item)
     → IsFree range → AreNamed d.names (leaves chain) → AreRawLines range d chain places whole → AreNamed d.names (leaves whole)
 lines_named range d chain places whole free h is =
     let raw : HoldsOfRaw d.names.texts (HasEntry d.names) = record { html = tt; columns = λ ix within. within } in
     each_named d.names whole
-    (raw_lines_each (HasEntry d.names) d raw range chain places whole (λ a b. named_each d.names (range a b) (free_named d.names (range a b) (free a b)))
+    (raw_lines_each (HasEntry d.names) d raw range chain places whole (λ a b. free_each d.names (range a b) (free a b))
     (named_each d.names chain h) is)
 
 -- the index of a heading, if it has one, names an entry

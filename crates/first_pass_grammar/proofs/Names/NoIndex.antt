@@ -29,7 +29,7 @@ HasTextIndex (SynthesizeText ix) = Unit {0}
 HasTextIndex body = index_of body ≡ None
 
 -- a token of possible markup has this property
-markup_textual : (texts : List CowStr) (body : ItemBody) → is_markup body ≡ true → NamesWithin texts body → HasTextIndex body
+pub markup_textual : (texts : List CowStr) (body : ItemBody) → is_markup body ≡ true → NamesWithin texts body → HasTextIndex body
 markup_textual texts (SynthesizeText ix) h k = tt
 markup_textual texts (FencedCodeBlock ix) h k = absurd (false≢true h)
 markup_textual texts (FootnoteDefinition ix) h k = absurd (false≢true h)

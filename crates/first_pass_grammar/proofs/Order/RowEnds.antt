@@ -1,6 +1,6 @@
 -- A row ends where its line does, and each of its cells takes at least one byte.
-use Rattle.std.proofs.Common.{◌≡◌, inl, inr, ℕ, ◌+◌, ◌-◌, ◌<◌, ◌≤◌, ◌==◌, Bool, true, false, true≢false, List, [], ◌∷◌, length, drop, slice_index, refl}
-use Rattle.std.proofs.Common.{sym, ap, subst, ◌∙◌, arith, if◌then◌else◌, length-drop, eqb-true, drop-drop}
+use Rattle.std.proofs.Common.{◌≡◌, inl, inr, ℕ, ◌+◌, ◌-◌, ◌<◌, ◌≤◌, ◌==◌, Bool, true, false, true≢false, List, [], ◌∷◌, length, drop, slice_index, refl, sym}
+use Rattle.std.proofs.Common.{ap, subst, ◌∙◌, arith, length-drop, eqb-true, drop-drop}
 use Rattle.first_pass_grammar.proofs.Common.{prefix_len, cases_lt, and_parts, nat_tests, get_or_past, at_drop_all, at_drop_more, pipe, has, tables, Item}
 use Rattle.first_pass_grammar.proofs.Common.{is_line_end, is_content, is_white, at_line_end, line_len, Place, line_place, offset, line_end, IsPlaceOf}
 use Rattle.first_pass_grammar.proofs.Common.{line_len-eol, line_len-fits, bytes_line_end, MathBraces, Inline, Spot, spot, IsCell, cell_ends, Document}
@@ -24,11 +24,7 @@ white_content (b ∷ bs) = white_step b bs (white_content bs)
 
 -- a pipe is inside the text, and is content
 pub pipe_inside : (text : List ℕ) (at : ℕ) → (slice_index text at == pipe) ≡ true → at < length text
-pipe_inside text at here =
-    elim (cases_lt at (length text)) [
-      | inl inside ↦ inside
-      | inr past ↦ absurd (true≢false (sym here ∙ ap (λ (b : ℕ). b == pipe) (get_or_past text at 0 past)))
-    ]
+pipe_inside text at here = grind (arith, cases_lt, get_or_past)
 
 pipe_content : (b : ℕ) (bs : List ℕ) → b ≡ pipe → 1 ≤ prefix_len is_content (b ∷ bs)
 pipe_content b bs h = grind (arith, nat_tests)
@@ -36,22 +32,14 @@ pipe_content b bs h = grind (arith, nat_tests)
 start_along : (text : List ℕ) (at : ℕ) (t : Bool) → (slice_index text at == pipe) ≡ t
     → cell_start text at + line_len (drop (cell_start text at) text) ≡ at + line_len (drop at text)
 start_along text at true here =
-    let begins : cell_start text at ≡ at + 1 = ap (λ (t : Bool). if t then at + 1 else at) here in
-    let same = ap (λ (k : ℕ). line_len (drop k text)) begins in
     let read = at_drop_more (prefix_len is_content) text at 0 (pipe_inside text at here) in
     let some = pipe_content (slice_index text at) (drop (at + 1) text) (eqb-true (slice_index text at) pipe here) in
-    let moved = along text at 1 (omega arith) in
-    omega arith
-start_along text at false here =
-    let begins : cell_start text at ≡ at = ap (λ (t : Bool). if t then at + 1 else at) here in
-    let same = ap (λ (k : ℕ). line_len (drop k text)) begins in
-    omega arith
+    rw here (along text at 1 (omega arith))
+start_along text at false here = rw here
 
 -- the content of a cell begins in the line in which it is looked for
 text_along : (text : List ℕ) (at : ℕ) → cell_text text at + line_len (drop (cell_text text at) text) ≡ at + line_len (drop at text)
-text_along text at =
-    along text (cell_start text at) (prefix_len is_white (drop (cell_start text at) text)) (white_content (drop (cell_start text at) text))
-    ∙ start_along text at (slice_index text at == pipe) refl
+text_along text at = grind (arith, along, white_content, start_along)
 
 -- It begins in the text, and not before that place.
 pub text_after : (text : List ℕ) (at : ℕ) (t : Bool) → (slice_index text at == pipe) ≡ t → at ≤ cell_text text at
@@ -68,11 +56,7 @@ text_within text at within =
 pub row_ends_its_line : (d : Document) (p : Spot) (cells : List (List (ℕ × Item))) (to : Spot) → p.at ≤ length d.text → AreCells d p cells to
     → to.at ≡ p.at + line_len (drop p.at d.text)
 unfolding AreCells
-row_ends_its_line d p [] to within (n, h, is) =
-    let first = text_along d.text p.at in
-    let rest = line_len-eol (drop (cell_text d.text p.at) d.text) n h in
-    let stop : to.at ≡ cell_text d.text p.at + n = ap (λ (z : Spot). z.at) is in
-    omega arith
+row_ends_its_line d p [] to within (n, h, is) = grind (arith, text_along, line_len-eol)
 row_ends_its_line d p (cell ∷ cells) to within (on, tokens, next, is, same, more) =
     let start = text_within d.text p.at within in
     let ends = cell_ends start.1 is in
@@ -88,8 +72,7 @@ row_ends_its_line d p (cell ∷ cells) to within (on, tokens, next, is, same, mo
 -- the same of a row that begins at a place of the text
 pub row_ends_at_place : (d : Document) (p : Place) (before : MathBraces) (cells : List (List (ℕ × Item))) (to : Spot) → IsPlaceOf d.text p
     → AreCells d (spot (offset p) before) cells to → to.at ≡ line_end p
-row_ends_at_place d p before cells to place are =
-    row_ends_its_line d (spot (offset p) before) cells to place.within are ∙ ap (λ (bs : List ℕ). offset p + line_len bs) (sym place.left)
+row_ends_at_place d p before cells to place are = grind (arith, row_ends_its_line)
 
 -- a line ends at a line ending
 end_byte : (b : ℕ) (bs : List ℕ) → is_line_end b ≡ true → at_line_end (b ∷ bs) ≡ true

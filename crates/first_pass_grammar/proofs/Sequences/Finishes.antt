@@ -1,5 +1,5 @@
 -- The completions of open nodes, as one type over the further parts of the open containers.
-use Rattle.std.proofs.Common.{◌≡◌, ℕ, suc, Bool, false, List, [], ◌∷◌, length, refl, sym, ap, ◌∙◌, subst}
+use Rattle.std.proofs.Common.{◌≡◌, ℕ, suc, Bool, false, List, [], ◌∷◌, length, refl, sym, subst, arith}
 use Rattle.first_pass_grammar.proofs.Common.{Item, Place, Document, Skeleton, Before, after_container, before_end, Continues, level, Remaining, Lines}
 use Rattle.first_pass_grammar.proofs.Common.{onward, end_before, IsSequence, ItemsOf, Rows, any_gap, rows_of, Tables, Derives, with_all_of, ended, Pending}
 use Rattle.first_pass_grammar.proofs.Common.{NoList, OneList, Unfinished, Further, AreFurther, rows_beyond, rendered, Frame, InContainer, Closed}
@@ -46,8 +46,7 @@ finish_of : (d : Document) (frames : List Frame) (os : List ℕ) (w : Unfinished
     → Finish d w.defined w.list w.before frames w.nodes os from lines forest tables
 unfolding AreFurther Becomes Finish
 finish_of d [] [] w from lines [] forest tables are becomes = absurd becomes
-finish_of d [] [] w from lines (f ∷ []) forest tables (seq, e) (is, tables_are) =
-    (f.blocks, seq, is ∙ ap (λ z. rendered 1 z w.nodes w.list (rows_of false w.before z f.blocks)) e, tables_are)
+finish_of d [] [] w from lines (f ∷ []) forest tables (seq, e) (is, tables_are) = grind arith
 finish_of d [] [] w from lines (f ∷ g ∷ more) forest tables are becomes = absurd are
 finish_of d (InDefinitions loose ∷ frames) (o ∷ os) w from lines further forest tables are becomes =
     finish_of d frames os (record w { list = definitions_open o loose w.list }) from lines further forest tables are becomes
@@ -123,8 +122,4 @@ pub completes_by : (d : Document) (frames : List Frame) (os : List ℕ) (w : Unf
     → AreBelow (length w.nodes) os → IsShaped frames
     → ((forest : List (ℕ × Item)) (tables : Tables) → Finish d w.defined w.list w.before frames w.nodes os from lines forest tables → Derives d forest tables)
     → Completes d frames os w from lines
-completes_by d frames os w from lines below shape whole = record {
-  below = below;
-  shape = shape;
-  whole = λ further forest tables are becomes. whole forest tables (finish_of d frames os w from lines further forest tables are becomes);
-}
+completes_by d frames os w from lines below shape whole = grind (arith, finish_of)

@@ -1,9 +1,9 @@
 -- A footnote definition does not change the labels of others: the head of one is the same inside a footnote definition
 -- as around it.
-use Rattle.std.proofs.Common.{arith, ◌≡◌, ℕ, ◌&&◌, ◌||◌, not, Bool, true, false, nat_lt, List, [], ◌∷◌, drop, Option, Some, None, refl, ap, sym, ◌∙◌}
-use Rattle.std.proofs.Common.{if◌then◌else◌, option_map, option_and_then, is_some}
-use Rattle.first_pass_grammar.proofs.Common.{and-false, Options, has, footnotes, gfm_footnotes, at_line_end, line_len, Rest, indent, Place, line_rest}
-use Rattle.first_pass_grammar.proofs.Common.{footnote_head, context, footnote_columns, prefix, after, or_shorter, front, all_taken, unindented, Continued}
+use Rattle.std.proofs.Common.{arith, ◌≡◌, ℕ, ◌&&◌, ◌||◌, not, Bool, true, false, List, [], ◌∷◌, drop, Option, Some, None, refl, ap, sym, ◌∙◌}
+use Rattle.std.proofs.Common.{if◌then◌else◌, option_and_then, is_some}
+use Rattle.first_pass_grammar.proofs.Common.{and-false, Options, gfm_footnotes, at_line_end, line_len, Rest, indent, Place, line_rest}
+use Rattle.first_pass_grammar.proofs.Common.{context, footnote_columns, prefix, after, or_shorter, front, all_taken, Continued}
 use Rattle.first_pass_grammar.proofs.Common.{continued, interrupts, table_at, crossed, footnote_prefix, footnote_head_at}
 use Rattle.std.proofs.Math.Dec.{leb-zero}
 use Rattle.first_pass_grammar.specs.declared.kind.Container.{Container}
@@ -88,10 +88,7 @@ prefix_by : (options : Options) (columns : ℕ) (path : List Container) (bs : Li
     → columns ≡ (if t then 4 else 0)
     → footnote_prefix (context options (FootnoteDefinition columns ∷ path)) bs ≡ footnote_prefix (context options path) bs
 prefix_by options columns path bs true gfm is = rw gfm refl
-prefix_by options columns path bs false gfm is =
-    ap (λ (n : ℕ). footnote_prefix (context options (FootnoteDefinition n ∷ path)) bs) is
-    ∙ ap (λ (o : Option ℕ). if gfm_footnotes options then None else o)
-    (ap (option_map (λ (r : Rest). r.taken)) (crossed_same options path true (line_rest bs)))
+prefix_by options columns path bs false gfm is = grind (arith, crossed_same)
 
 prefix_same : (options : Options) (columns : ℕ) (path : List Container) (bs : List ℕ) → columns ≡ footnote_columns options
     → footnote_prefix (context options (FootnoteDefinition columns ∷ path)) bs ≡ footnote_prefix (context options path) bs
@@ -100,8 +97,4 @@ prefix_same options columns path bs is = prefix_by options columns path bs (gfm_
 pub head_around : (options : Options) (columns : ℕ) (path : List Container) (p : Place) → columns ≡ footnote_columns options
     → footnote_head_at (context options (FootnoteDefinition columns ∷ path)) p ≡ footnote_head_at (context options path) p
 unfolding footnote_head_at
-head_around options columns path p is =
-    let same : footnote_prefix (context options (FootnoteDefinition columns ∷ path)) ≡ footnote_prefix (context options path) =
-    λ i bs. prefix_same options columns path bs is i in
-    ap (λ (f : List ℕ → Option ℕ).
-    if has options footnotes && nat_lt (indent p.rest) 4 then footnote_head f false (unindented p).rest.left else None) same
+head_around options columns path p is = grind (arith, prefix_same)

@@ -1,13 +1,12 @@
 -- Where a sequence of blocks continues, and where it ends.
 use Rattle.std.proofs.Common.{◌≡◌, ◌⊎◌, inl, inr, ℕ, ◌&&◌, Bool, true, false, List, [], ◌∷◌, Option, Some, None, refl, sym, ap, subst, if◌then◌else◌}
-use Rattle.std.proofs.Common.{option_map, is_some, true≢false}
+use Rattle.std.proofs.Common.{option_map, is_some, true≢false, arith}
 use Rattle.first_pass_grammar.proofs.Common.{cond_both, and_parts, none-some, Options, Rest, Place, Before, context, at_rest, after, taken, next_goes_on}
-use Rattle.first_pass_grammar.proofs.Common.{in_footnote, footnote_head_at, ends_footnote, is_blank_rest, Continues, Line, Blanks, AtPlace, Anything}
-use Rattle.first_pass_grammar.proofs.Common.{Inside, is_blank_after, next_is_blank, Level, level, Remaining, Lines, InLine, NextBlock, Begins, Ends}
+use Rattle.first_pass_grammar.proofs.Common.{in_footnote, footnote_head_at, ends_footnote, is_blank_rest, Continues, Line, Blanks, AtPlace, Anything, Inside}
+use Rattle.first_pass_grammar.proofs.Common.{is_blank_after, next_is_blank, Level, level, Remaining, Lines, InLine, NextBlock, Begins, Ends}
 use Rattle.first_pass_grammar.proofs.Common.{ends_old_footnote, only_blanks, next_block}
 use Rattle.first_pass_grammar.specs.declared.kind.Container.{Container}
-use Rattle.first_pass_grammar.specs.Skeleton.{next_block_at, next_block_in}
-use Rattle.first_pass_grammar.specs.Skeleton.{next_block_blank}
+use Rattle.first_pass_grammar.specs.Skeleton.{next_block_in, next_block_blank}
 
 -- the place of a block and the lines after it: a place inside a line, or the place after the path's prefixes in the
 -- next line
@@ -30,39 +29,33 @@ GoesAt path from lines (Ends left) = LeavesAt path from lines left
 in_line : (path : List Container) (from : Continues) (lines : List Place) (p : Place) (following : List Place) (u : Bool)
     → BeginsAt path from lines p following
     → GoesAt path from lines (if◌then◌else◌ {A = NextBlock} (in_footnote path && u) (Ends (InLine p following)) (Begins p following))
-in_line path from lines p following u at =
-    cond_both (in_footnote path && u) (Ends (InLine p following)) (Begins p following) (GoesAt path from lines)
-    (λ b. (at, (and_parts (in_footnote path) u b).0)) (λ b. at)
+in_line path from lines p following u at = grind (arith, cond_both, and_parts)
 
 at_line : (options : Options) (l : Level) (line : Place) (lines : List Place) (o : Option Place) → taken l.path line ≡ o
     → GoesAt l.path Line (line ∷ lines) (next_block_in options l o (line ∷ lines))
 at_line options l line lines None is = refl
-at_line options l line lines (Some q) is =
-    cond_both (ends_old_footnote l) (Ends (Lines (line ∷ lines))) (next_block_at (context options l.path) q lines) (GoesAt l.path Line (line ∷ lines))
-    (λ b. refl) (λ b.
-    in_line l.path Line (line ∷ lines) q lines (is_some (footnote_head_at (context options l.path) q)) (is, refl))
+at_line options l line lines (Some q) is = grind (arith, cond_both, in_line)
 
 at_blank : (path : List Container) (e : ℕ) (line : Place) (lines : List Place) (o : Option Place) → taken path line ≡ o
     → GoesAt path (Blanks e) (line ∷ lines) (next_block_blank o (line ∷ lines))
 at_blank path e line lines None is = refl
-at_blank path e line lines (Some q) is =
-    cond_both (is_blank_rest q.rest) (Begins q lines) (Ends (Lines (line ∷ lines))) (GoesAt path (Blanks e) (line ∷ lines)) (λ b. (is, refl)) (λ b. refl)
+at_blank path e line lines (Some q) is = grind (arith, cond_both)
 
 goes_at : (options : Options) (l : Level) (from : Continues) (lines : List Place) → GoesAt l.path from lines (next_block options l from lines)
 unfolding next_block
-goes_at options l (AtPlace p Anything) lines =
-    in_line l.path (Inside p) lines p lines (is_some (footnote_head_at (context options l.path) p)) (refl, refl)
+goes_at options l (AtPlace p Anything) lines = in_line l.path (Inside p) lines p lines (is_some (footnote_head_at (context options l.path) p)) (refl, refl)
 goes_at options l (AtPlace p may) lines = (refl, refl)
 goes_at options l Line [] = refl
 goes_at options l Line (line ∷ lines) = at_line options l line lines (taken l.path line) refl
 goes_at options l (Blanks e) [] = refl
 goes_at options l (Blanks e) (line ∷ lines) = at_blank l.path e line lines (taken l.path line) refl
 
--- the place of the next block of a sequence; the next lemma: what a sequence without blocks leaves
+-- the place of the next block of a sequence
 pub begins_at : (options : Options) (l : Level) (from : Continues) (lines : List Place) (p : Place) (following : List Place)
     → next_block options l from lines ≡ Begins p following → BeginsAt l.path from lines p following
 begins_at options l from lines p following is = subst (GoesAt l.path from lines) is (goes_at options l from lines)
 
+-- what a sequence without blocks leaves
 pub leaves_at : (options : Options) (l : Level) (from : Continues) (lines : List Place) (left : Remaining)
     → next_block options l from lines ≡ Ends left → LeavesAt l.path from lines left
 leaves_at options l from lines left is = subst (GoesAt l.path from lines) is (goes_at options l from lines)

@@ -3,14 +3,13 @@
 use Rattle.std.proofs.Common.{◌≡◌, inl, inr, ℕ, ◌+◌, nat_lt, Bool, true, false, List, [], ◌∷◌, drop, drop-drop, Option, Some, None, MatchOption, refl, sym}
 use Rattle.std.proofs.Common.{ap, ◌∙◌, subst, arith}
 use Rattle.first_pass_grammar.proofs.Common.{cond_both, Item, Alignment, Place, line_place, lines_at, offset, ends_line, is_white, Context, at_rest, front}
-use Rattle.first_pass_grammar.proofs.Common.{unindented, is_blank_rest, Document, around, add_break, TextLines, AreTextLines, no_braces, Spot, spot}
+use Rattle.first_pass_grammar.proofs.Common.{unindented, is_blank_rest, Document, around, add_break, TextLines, AreTextLines, Spot, spot}
 use Rattle.first_pass_grammar.proofs.Common.{add_tokens, LinkEntry, lines_beyond, Beyond, Ended, FlowsOn, IsRun, headed_table, Taken, TableSoFar, IsTable}
-use Rattle.first_pass_grammar.proofs.Common.{lines_from, IsPlainText, IsText, IsUnderlined, underline_first, plain_text, HeadingLevel, past_head}
-use Rattle.first_pass_grammar.proofs.Common.{prefix_len}
+use Rattle.first_pass_grammar.proofs.Common.{lines_from, IsPlainText, IsText, IsUnderlined, plain_text, HeadingLevel, past_head, prefix_len}
 use Rattle.first_pass_lines.specs.Places.{lines_after}
 use Rattle.first_pass_grammar.specs.declared.kind.Container.{Container}
 use Rattle.first_pass_grammar.proofs.Count.RowsWithRoom.{with_row, RowsWithRoom, counted}
-use Rattle.first_pass_grammar.proofs.Sequences.PlacesKept.{IsAt, AreAt, HoldsAtEach, IsKeptLater, at_front}
+use Rattle.first_pass_grammar.proofs.Sequences.PlacesKept.{IsAt, AreAt, IsKeptLater, at_front, IsKeptBelow}
 
 -- the lines of a text from an offset on
 place_is_at : (text : List ℕ) (start : ℕ) (bs : List ℕ) → drop start text ≡ bs → IsAt text (line_place start bs)
@@ -37,77 +36,80 @@ lines_from_at text start = lines_by text start (drop start text) refl
 pub lines_are_at : (text : List ℕ) → AreAt text (lines_at 0 text)
 lines_are_at text = lines_from_at text 0
 
-module _ (At : Place → Type 0) (kept : IsKeptLater At) where
-  -- the lines after an offset
-  pub beyond_left : (e : ℕ) (lines : List Place) → HoldsAtEach At lines → HoldsAtEach At (lines_beyond e lines)
-  unfolding lines_beyond
-  beyond_left e [] h = tt
-  beyond_left e (line ∷ lines) h = cond_both (nat_lt line.line e) _ _ (HoldsAtEach At) (λ b. beyond_left e lines h.1) (λ b. h)
+-- the lines after an offset keep a property
+pub beyond_left : (L : List Place → Type 0) → IsKeptBelow L → (e : ℕ) (lines : List Place) → L lines → L (lines_beyond e lines)
+unfolding lines_beyond
+beyond_left L further e [] h = h
+beyond_left L further e (line ∷ lines) h = cond_both (nat_lt line.line e) _ _ L (λ b. beyond_left L further e lines (further line lines h)) (λ b. h)
 
+module _ (At : Place → Type 0) (kept : IsKeptLater At) (L : List Place → Type 0) (first : (line : Place) (lines : List Place) → L (line ∷ lines) → At line)
+    (further : IsKeptBelow L) where
   -- where blocks continue after the head of a footnote definition
   abbrev IsThere : Place × List Place → Type 0
-  IsThere there = At there.0 × HoldsAtEach At there.1
+  IsThere there = At there.0 × L there.1
 
-  pub head_left : (gfm : Bool) (q : Place) (lines : List Place) → At q → HoldsAtEach At lines → IsThere (past_head gfm q lines)
+  pub head_left : (gfm : Bool) (q : Place) (lines : List Place) → At q → L lines → IsThere (past_head gfm q lines)
   head_left true q lines i h = (kept.past (prefix_len is_white q.rest.left) q i, h)
   head_left false q [] i h = (i, h)
-  head_left false q (line ∷ lines) i h = cond_both (is_blank_rest q.rest) (line, lines) (q, line ∷ lines) IsThere (λ b. h) (λ b. (i, h))
+  head_left false q (line ∷ lines) i h =
+      cond_both (is_blank_rest q.rest) (line, lines) (q, line ∷ lines) IsThere (λ b. (first line lines h, further line lines h)) (λ b. (i, h))
 
   -- what follows a run of definitions
   abbrev pub IsBeyond : Beyond → Type 0
-  IsBeyond (Ended p left) = HoldsAtEach At left
-  IsBeyond (FlowsOn p lines) = At p × HoldsAtEach At lines
+  IsBeyond (Ended p left) = L left
+  IsBeyond (FlowsOn p lines) = At p × L lines
 
-  pub run_left : (around : Context) (p : Place) (lines : List Place) (xs : List LinkEntry) (b : Beyond) → At p → HoldsAtEach At lines
+  pub run_left : (around : Context) (p : Place) (lines : List Place) (xs : List LinkEntry) (b : Beyond) → At p → L lines
       → IsRun around p lines xs b → IsBeyond b
   unfolding IsRun
   run_left around p lines [] b i h (none, e) = subst IsBeyond (sym e) (i, h)
-  run_left around p lines (x ∷ xs) b i h (at, inl (stops, last, e)) = subst IsBeyond (sym e) (beyond_left x.«end» lines h)
+  run_left around p lines (x ∷ xs) b i h (at, inl (stops, last, e)) = subst IsBeyond (sym e) (beyond_left L further x.«end» lines h)
   run_left around p lines (x ∷ xs) b i h (at, inr (line, left, is, on, more)) =
-      let following : HoldsAtEach At (line ∷ left) = subst (HoldsAtEach At) is (beyond_left x.«end» lines h) in
-      run_left around (unindented (at_rest line (front around.path line.rest))) left xs b (at_front At kept around.path line following.0) following.1 more
+      let following : L (line ∷ left) = subst L is (beyond_left L further x.«end» lines h) in
+      run_left around (unindented (at_rest line (front around.path line.rest))) left xs b (at_front At kept around.path line (first line left following))
+      (further line left following) more
 
+module _ (L : List Place → Type 0) (further : IsKeptBelow L) where
   -- the lines after the lines of a text
   lines_left : (d : Document) (path : List Container) (p : Spot) (chain : List Item) (lines : List Place) (t : TextLines)
-      → HoldsAtEach At lines → AreTextLines d path p chain lines t → HoldsAtEach At t.left
+      → L lines → AreTextLines d path p chain lines t → L t.left
   unfolding AreTextLines
-  lines_left d path p chain [] t h (k, a, after, i, e) = subst (λ (z : TextLines). HoldsAtEach At z.left) (sym e) tt
-  lines_left d path p chain (line ∷ lines) t h (k, a, after, i, inl (ends, e)) = subst (λ (z : TextLines). HoldsAtEach At z.left) (sym e) h
+  lines_left d path p chain [] t h (k, a, after, i, e) = subst (λ (z : TextLines). L z.left) (sym e) h
+  lines_left d path p chain (line ∷ lines) t h (k, a, after, i, inl (ends, e)) = subst (λ (z : TextLines). L z.left) (sym e) h
   lines_left d path p chain (line ∷ lines) t h (k, a, after, i, inr (goes, more)) =
-      lines_left d path (spot (offset (unindented (at_rest line (front path line.rest)))) after) (add_break a.1 (add_tokens chain k)) lines t h.1 more
+      lines_left d path (spot (offset (unindented (at_rest line (front path line.rest)))) after) (add_break a.1 (add_tokens chain k)) lines t
+      (further line lines h) more
 
   -- the lines after rows
   abbrev LeavesHeld : Taken → Type 0
-  LeavesHeld t = HoldsAtEach At t.left
+  LeavesHeld t = L t.left
 
-  rows_left : (d : Document) (path : List Container) (table : TableSoFar) (lines : List Place) (t : Taken) → HoldsAtEach At lines
+  rows_left : (d : Document) (path : List Container) (table : TableSoFar) (lines : List Place) (t : Taken) → L lines
       → RowsWithRoom d path table lines t → LeavesHeld t
   unfolding RowsWithRoom
-  rows_left d path table [] t h e = subst LeavesHeld (sym e) tt
+  rows_left d path table [] t h e = subst LeavesHeld (sym e) h
   rows_left d path table (line ∷ lines) t h (inl (none, e)) = subst LeavesHeld (sym e) h
   rows_left d path table (line ∷ lines) t h (inr (row, has, inl (stops, e))) = subst LeavesHeld (sym e) h
   rows_left d path table (line ∷ lines) t h (inr (row, has, inr (is, more, rest, e))) =
-      subst LeavesHeld (sym e) (rows_left d path (with_row table row) lines more h.1 rest)
+      subst LeavesHeld (sym e) (rows_left d path (with_row table row) lines more (further line lines h) rest)
 
-  first_left : (lines : List Place) → HoldsAtEach At lines → HoldsAtEach At (drop 1 lines)
-  first_left [] h = tt
-  first_left (line ∷ lines) h = h.1
+  first_left : (lines : List Place) → L lines → L (drop 1 lines)
+  first_left [] h = h
+  first_left (line ∷ lines) h = further line lines h
 
   -- the lines after a paragraph, a setext heading or a table
   ended_left : (d : Document) (path : List Container) (start : ℕ) (marker : Option Item) (l : TextLines) (t : Taken) (o : Option (ℕ × HeadingLevel))
-      → HoldsAtEach At l.left → MatchOption o (t ≡ plain_text d start marker l) (λ underline. IsUnderlined d start marker l underline.1 t) → LeavesHeld t
+      → L l.left → MatchOption o (t ≡ plain_text d start marker l) (λ underline. IsUnderlined d start marker l underline.1 t) → LeavesHeld t
   ended_left d path start marker l t None h e = subst LeavesHeld (sym e) h
   ended_left d path start marker l t (Some underline) h (index, named, e) = subst LeavesHeld (sym e) (first_left l.left h)
 
   text_left_by : (d : Document) (path : List Container) (p : Place) (marker : Option Item) (lines : List Place) (t : Taken) (o : Option (List Alignment))
-      → HoldsAtEach At lines → MatchOption o (IsPlainText d path (offset p) marker lines t) (λ alignments. IsTable d path p alignments lines t)
-      → LeavesHeld t
-  text_left_by d path p marker lines t None h (l, are, is) =
-      ended_left d path (offset p) marker l t (underline_first path l.left) (lines_left d path (spot (offset p) no_braces) [] lines l h are) is
+      → L lines → MatchOption o (IsPlainText d path (offset p) marker lines t) (λ alignments. IsTable d path p alignments lines t) → LeavesHeld t
+  text_left_by d path p marker lines t None h (l, are, is) = grind (arith, ended_left, lines_left)
   text_left_by d path p marker lines t (Some alignments) h table =
       rows_left d path _ (drop 1 lines) _ (first_left lines h) (counted _ _ _ _ _ table.are_rows)
 
-  pub text_left : (d : Document) (path : List Container) (p : Place) (marker : Option Item) (lines : List Place) (t : Taken) → HoldsAtEach At lines
+  pub text_left : (d : Document) (path : List Container) (p : Place) (marker : Option Item) (lines : List Place) (t : Taken) → L lines
       → IsText d path p marker lines t → LeavesHeld t
   unfolding IsText
   text_left d path p marker lines t h is = text_left_by d path p marker lines t (headed_table (around d path) p.rest.left) h is

@@ -1,5 +1,5 @@
 -- A container begins with the marker of an item, of a definition or of a block quote.
-use Rattle.std.proofs.Common.{◌≡◌, ℕ, Bool, Option, Some, None, refl, subst, if◌then◌else◌, option_map}
+use Rattle.std.proofs.Common.{◌≡◌, ℕ, Bool, Option, Some, None, refl, subst, if◌then◌else◌, option_map, arith}
 use Rattle.first_pass_grammar.proofs.Common.{same_Some, Options, Rest, Place, prefix, definition_marker_at, Start, item_start, task_after, quote_begun}
 use Rattle.first_pass_grammar.proofs.Common.{tag_after, definition_start, start_at}
 use Rattle.std.specs.Option.{option_or}
@@ -24,8 +24,7 @@ start_of_three options p i m q =
 start_by : (options : Options) (p : Place) (P : Start → Type 0) (i : Option ((ℕ × ℕ × ℕ) × Rest)) (m : Option (ℕ × Rest)) (q : Option Rest)
     → ((item : (ℕ × ℕ × ℕ) × Rest) → i ≡ Some item → P (item_as options p item))
     → ((marker : ℕ × Rest) → i ≡ None → m ≡ Some marker → P (definition_start p marker))
-    → ((r : Rest) → i ≡ None → q ≡ Some r → P (quote_as options p r))
-    → (s : Start) → start_of_three options p i m q ≡ Some s → P s
+    → ((r : Rest) → i ≡ None → q ≡ Some r → P (quote_as options p r)) → (s : Start) → start_of_three options p i m q ≡ Some s → P s
 start_by options p P (Some item) m q f d g s h = subst P (same_Some (item_as options p item) s h) (f item refl)
 start_by options p P None (Some marker) q f d g s h = subst P (same_Some (definition_start p marker) s h) (d marker refl refl)
 start_by options p P None None (Some r) f d g s h = subst P (same_Some (quote_as options p r) s h) (g r refl refl)
@@ -38,9 +37,7 @@ pub start_cases : (options : Options) (may : Bool) (p : Place) (P : Start → Ty
     → ((r : Rest) → item_at p.rest ≡ None → prefix (BlockQuote None) p.rest ≡ Some r → P (quote_begun p (tag_after options r) r))
     → (s : Start) → start_at options may p ≡ Some s → P s
 unfolding start_at
-start_cases options may p P f d g s h =
-    start_by options p P (item_at p.rest) (marker_where may p) (prefix (BlockQuote None) p.rest) f
-    (λ marker none is. d marker none (if_some may (definition_marker_at p.rest) marker is)) g s h
+start_cases options may p P f d g s h = grind (arith, start_by, if_some)
 
 pub start_item : (options : Options) (may : Bool) (p : Place) (item : (ℕ × ℕ × ℕ) × Rest) → item_at p.rest ≡ Some item
     → start_at options may p ≡ Some (item_start p item.0 (task_after options p.line item.1))

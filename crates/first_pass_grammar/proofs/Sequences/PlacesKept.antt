@@ -1,11 +1,11 @@
 -- The rest at a place is the text from its offset on. This holds for the lines of a text; after columns, markers and
 -- container prefixes; and for the places and lines after a leaf block.
 use Rattle.std.proofs.Common.{◌≡◌, ℕ, ◌+◌, nat_lt, Bool, List, [], ◌∷◌, drop, Option, Some, None, refl, sym, ap, subst, length, ◌∙◌, arith, drop-drop}
-use Rattle.std.proofs.Common.{if◌then◌else◌, option_map}
+use Rattle.std.proofs.Common.{if◌then◌else◌, option_map, length-drop, ◌<◌}
 use Rattle.first_pass_grammar.proofs.Common.{none-some, same_Some, drop-append_seam, Options, has, Rest, indent, past_bytes, after_columns, Place, place_at}
 use Rattle.first_pass_grammar.proofs.Common.{offset, task_of, IsMarked, item-marked, definition-marked, at_rest, prefix, after, front, taken, all_taken}
 use Rattle.first_pass_grammar.proofs.Common.{unindented, definition_marker_at, code_place, code_by, code_lines, Extent, Verdict, GoesOn, IsLast, Closes}
-use Rattle.first_pass_grammar.proofs.Common.{Stops, extent_by, extent, place_past, task_by, task_after}
+use Rattle.first_pass_grammar.proofs.Common.{Stops, extent_by, extent, place_past, task_by, task_after, columns_shorter, is_content, prefix_len-le-length}
 use Rattle.first_pass_items.specs.OptionWords.{tasklists}
 use Rattle.first_pass_scan.proofs.MarkerPlaces.{task-marked}
 use Rattle.first_pass_grammar.specs.declared.kind.Container.{Container}
@@ -13,15 +13,16 @@ use Rattle.first_pass_grammar.specs.declared.kind.Container.TheVariants.{BlockQu
 use Rattle.first_pass_grammar.specs.Kinds.{item_at}
 use Rattle.first_pass_grammar.proofs.Sequences.PrefixBytes.{if_some, Skips, columns_skip, prefix_skips, after_skips, front_skips}
 
--- the rest at a place is the text from its offset on; the next definitions: a property of each of these places, and
--- this one
+-- the rest at a place is the text from its offset on
 abbrev pub IsAt : List ℕ → Place → Type 0
 IsAt text p = p.rest.left ≡ drop (offset p) text
 
+-- a property of each of these places
 abbrev pub HoldsAtEach : (Place → Type 0) → List Place → Type 0
 HoldsAtEach At [] = Unit {0}
 HoldsAtEach At (p ∷ ps) = At p × HoldsAtEach At ps
 
+-- the rest at each of these places is the text from its offset on
 abbrev pub AreAt : List ℕ → List Place → Type 0
 AreAt text lines = HoldsAtEach (IsAt text) lines
 
@@ -47,7 +48,7 @@ skips_follow {r} {s} h = (length h.bytes, sym (ap (drop (length h.bytes)) h.left
 columns_follow : (k : ℕ) (r : Rest) → Follows r (after_columns k r)
 columns_follow k r = skips_follow (columns_skip k r)
 
--- after the marker of an item, and of a task
+-- a rest follows after a marker
 marked_follows : (r s : Rest) → IsMarked r s → Follows r s
 marked_follows r s m =
     let one : Rest = past_bytes m.width r in
@@ -56,17 +57,37 @@ marked_follows r s m =
     (follows_both r two (after_columns m.further two) (follows_both r one two (m.width, refl, refl) (columns_follow m.first one))
     (columns_follow m.further two))
 
-item_follows : (r : Rest) (item : (ℕ × ℕ × ℕ) × Rest) → item_at r ≡ Some item → Follows r item.1
+-- If a list item begins here, its marker follows the indentation.
+pub item_marked : (r : Rest) (item : (ℕ × ℕ × ℕ) × Rest) → item_at r ≡ Some item → IsMarked (all_taken r) item.1
 unfolding item_at
-item_follows r item h =
-    follows_both r (all_taken r) item.1 (columns_follow (indent r) r)
-    (marked_follows (all_taken r) item.1 (item-marked (indent r) (all_taken r) item (if_some (nat_lt (indent r) 4) _ item h)))
+item_marked r item h = item-marked (indent r) (all_taken r) item (if_some (nat_lt (indent r) 4) _ item h)
 
-marker_follows : (r : Rest) (marker : ℕ × Rest) → definition_marker_at r ≡ Some marker → Follows r marker.1
+-- If a definition begins here, its marker follows the indentation.
+pub marked_definition : (r : Rest) (definition : ℕ × Rest) → definition_marker_at r ≡ Some definition → IsMarked (all_taken r) definition.1
 unfolding definition_marker_at
-marker_follows r marker h =
-    follows_both r (all_taken r) marker.1 (columns_follow (indent r) r)
-    (marked_follows (all_taken r) marker.1 (definition-marked (indent r) (all_taken r) marker (if_some (nat_lt (indent r) 4) _ marker h)))
+marked_definition r definition h = definition-marked (indent r) (all_taken r) definition (if_some (nat_lt (indent r) 4) _ definition h)
+
+-- After a marker, fewer bytes of the line are left.
+pub marked_shorter : (r s : Rest) → IsMarked r s → length s.left < length r.left
+marked_shorter r s m =
+    let one : Rest = past_bytes m.width r in
+    let first = columns_shorter m.first one in
+    let further = columns_shorter m.further (after_columns m.first one) in
+    let same = ap (λ (q : Rest). length q.left) m.same in
+    omega (arith, m.some, m.within, prefix_len-le-length is_content r.left, length-drop m.width r.left)
+
+pub marked_less : (n : ℕ) (r s : Rest) → IsMarked (after_columns n r) s → length s.left < length r.left
+marked_less n r s m = omega (arith, marked_shorter (after_columns n r) s m, columns_shorter n r)
+
+pub item_shorter : (r : Rest) (item : (ℕ × ℕ × ℕ) × Rest) → item_at r ≡ Some item → length item.1.left < length r.left
+item_shorter r item h = marked_less (indent r) r item.1 (item_marked r item h)
+
+pub definition_shorter : (r : Rest) (definition : ℕ × Rest) → definition_marker_at r ≡ Some definition → length definition.1.left < length r.left
+definition_shorter r definition h = marked_less (indent r) r definition.1 (marked_definition r definition h)
+
+-- a rest follows after indentation and the marker of an item or a definition
+after_marker : (r s : Rest) → IsMarked (all_taken r) s → Follows r s
+after_marker r s m = follows_both r (all_taken r) s (columns_follow (indent r) r) (marked_follows (all_taken r) s m)
 
 task_follows_by : (line : ℕ) (r : Rest) (o : Option (Bool × Rest)) → ((task : Bool × Rest) → o ≡ Some task → Follows r task.1) → Follows r (task_by line r o).1
 task_follows_by line r None f = follows_none r
@@ -124,34 +145,38 @@ module _ (At : Place → Type 0) (kept : IsKeptLater At) where
   at_quote p inside h i = kept.later p.line p.rest inside (skips_follow (prefix_skips (BlockQuote None) p.rest inside h)) i
 
   pub at_marker : (p : Place) (marker : ℕ × Rest) → definition_marker_at p.rest ≡ Some marker → At p → At (at_rest p marker.1)
-  at_marker p marker h i = kept.later p.line p.rest marker.1 (marker_follows p.rest marker h) i
+  at_marker p marker h i = kept.later p.line p.rest marker.1 (after_marker p.rest marker.1 (marked_definition p.rest marker h)) i
 
   pub at_item : (options : Options) (p : Place) (item : (ℕ × ℕ × ℕ) × Rest) → item_at p.rest ≡ Some item → At p
       → At (at_rest p (task_after options p.line item.1).1)
   at_item options p item h i =
       let task : Rest = (task_after options p.line item.1).1 in
-      kept.later p.line p.rest task (follows_both p.rest item.1 task (item_follows p.rest item h) (task_follows options p.line item.1)) i
+      let marked = after_marker p.rest item.1 (item_marked p.rest item h) in
+      kept.later p.line p.rest task (follows_both p.rest item.1 task marked (task_follows options p.line item.1)) i
 
--- the lines after a block
-module _ (At : Place → Type 0) where
-  pub verdict_left : (v : Verdict) (line : Place) (lines : List Place) (e : Extent) → HoldsAtEach At (line ∷ lines) → HoldsAtEach At e.left
-      → HoldsAtEach At (extent_by v line lines e).left
+-- a property of lines that the lines after the first one have too
+abbrev pub IsKeptBelow : (List Place → Type 0) → Type 0
+IsKeptBelow L = (line : Place) (lines : List Place) → L (line ∷ lines) → L lines
+
+-- the lines after a block have such a property
+module _ (L : List Place → Type 0) (further : IsKeptBelow L) where
+  pub verdict_left : (v : Verdict) (line : Place) (lines : List Place) (e : Extent) → L (line ∷ lines) → L e.left → L (extent_by v line lines e).left
   verdict_left (GoesOn p) line lines e h k = k
-  verdict_left (IsLast p) line lines e h k = h.1
-  verdict_left (Closes at) line lines e h k = h.1
+  verdict_left (IsLast p) line lines e h k = further line lines h
+  verdict_left (Closes at) line lines e h k = further line lines h
   verdict_left (Stops at) line lines e h k = h
 
-  pub extent_left : (judge : Place → Verdict) (n : ℕ) (lines : List Place) → HoldsAtEach At lines → HoldsAtEach At (extent judge n lines).left
+  pub extent_left : (judge : Place → Verdict) (n : ℕ) (lines : List Place) → L lines → L (extent judge n lines).left
   unfolding extent
-  extent_left judge n [] h = tt
-  extent_left judge n (line ∷ lines) h = verdict_left (judge line) line lines (extent judge n lines) h (extent_left judge n lines h.1)
+  extent_left judge n [] h = h
+  extent_left judge n (line ∷ lines) h = verdict_left (judge line) line lines (extent judge n lines) h (extent_left judge n lines (further line lines h))
 
-  code_left_by : (o : Option Place) (more lines : List Place) (further : List Place × List Place) → HoldsAtEach At lines → HoldsAtEach At further.1
-      → HoldsAtEach At (code_by more lines o further).1
-  code_left_by None more lines further h k = h
-  code_left_by (Some p) more lines further h k = k
+  code_left_by : (o : Option Place) (more lines : List Place) (left : List Place × List Place) → L lines → L left.1 → L (code_by more lines o left).1
+  code_left_by None more lines left h k = h
+  code_left_by (Some p) more lines left h k = k
 
-  pub code_left : (path : List Container) (lines : List Place) → HoldsAtEach At lines → HoldsAtEach At (code_lines path lines).1
+  pub code_left : (path : List Container) (lines : List Place) → L lines → L (code_lines path lines).1
   unfolding code_lines
-  code_left path [] h = tt
-  code_left path (line ∷ lines) h = code_left_by (code_place path line) lines (line ∷ lines) (code_lines path lines) h (code_left path lines h.1)
+  code_left path [] h = h
+  code_left path (line ∷ lines) h =
+      code_left_by (code_place path line) lines (line ∷ lines) (code_lines path lines) h (code_left path lines (further line lines h))

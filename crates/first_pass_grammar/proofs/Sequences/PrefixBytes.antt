@@ -59,8 +59,7 @@ column_byte r s (b ∷ bs) e h = column_by (b == space) (b == tab) r s b bs e re
 
 column_skips : (owed : ℕ) (r s : Rest) → column_of owed r ≡ Some s → Skips r s
 column_skips zero r s h = column_byte r s r.left refl h
-column_skips (suc owed) r s h =
-    subst (Skips r) (same_Some (record r { owed = owed }) s h) (record { bytes = []; left = refl; taken = omega arith; plain = refl })
+column_skips (suc owed) r s h = grind (arith, same_Some)
 
 columns_step : (k : ℕ) (r : Rest) (o : Option Rest) → next_column r ≡ o → ((s : Rest) → Skips s (after_columns k s)) → Skips r (after_columns (suc k) r)
 columns_step k r None e f = subst (Skips r) (sym (after-none (suc k) r e)) (skips_none r)

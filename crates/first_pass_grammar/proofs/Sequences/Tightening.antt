@@ -1,15 +1,14 @@
 -- The nodes after a list is closed are those of a tight list in the grammar.
 use Rattle.std.proofs.Common.{◌≡◌, ℕ, zero, suc, ◌+◌, ◌<◌, ◌≤◌, Bool, true, false, not, eqb, List, [], ◌∷◌, ◌++◌, length, map, Option, refl, ap, ◌∙◌, arith}
 use Rattle.std.proofs.Common.{eq-eqb, if◌then◌else◌, Some, None, option_map}
-use Rattle.first_pass_grammar.proofs.Common.{option_map_or, map-append, length-map, nat_tests, Item, modify, map_from, at_depth, tightened}
-use Rattle.first_pass_grammar.proofs.Common.{Before, nothing, after_blank, after_block, begins_paragraph, LeafBlock, BlankLine, Block, Opener, QuoteMarker}
-use Rattle.first_pass_grammar.proofs.Common.{ItemMarker, Skeleton, Nil, Then, Node, FootnoteMarker, DefinitionMarker, What, ALeaf, Row, Rows, End, OneOf}
-use Rattle.first_pass_grammar.proofs.Common.{is_loose, list_after, row_of, container_row, rows_of, continues_list, ATitle, Joins, ItemsOf, DefinitionsTo}
-use Rattle.first_pass_grammar.proofs.Common.{row_of_leaf, Definitions, apart_after, definitions_of_row, is_untitled, is_run_row, definitions_first, titled}
-use Rattle.first_pass_grammar.proofs.Common.{leaf_row, gap_before, row_items, tight_in, items_of, as_title, flagged, list_closed}
-use Rattle.first_pass_grammar.proofs.Common.{length-modify, cond_both}
-use Rattle.first_pass_grammar.specs.Rows.{AnItem}
-use Rattle.first_pass_grammar.specs.Rows.{ADefinition}
+use Rattle.first_pass_grammar.proofs.Common.{option_map_or, map-append, nat_tests, Item, modify, map_from, at_depth, tightened, Before, nothing, after_blank}
+use Rattle.first_pass_grammar.proofs.Common.{after_block, LeafBlock, BlankLine, Block, Opener, QuoteMarker, ItemMarker, Skeleton, Nil, Then}
+use Rattle.first_pass_grammar.proofs.Common.{Node, FootnoteMarker, DefinitionMarker, What, ALeaf, Row, Rows, End, OneOf, is_loose, list_after, row_of}
+use Rattle.first_pass_grammar.proofs.Common.{container_row, rows_of, continues_list, ATitle, Joins, ItemsOf, DefinitionsTo, row_of_leaf, Definitions}
+use Rattle.first_pass_grammar.proofs.Common.{apart_after, definitions_of_row, is_untitled, is_run_row, definitions_first, titled, leaf_row, gap_before}
+use Rattle.first_pass_grammar.proofs.Common.{row_items, tight_in, items_of, as_title, flagged, list_closed, length-modify, cond_both}
+use Rattle.first_pass_grammar.specs.Rows.{AnItem, ADefinition}
+use Rattle.first_pass_tree.proofs.Keeps.{map_from-length}
 
 pub eqb-same : (n : ℕ) → eqb n n ≡ true
 eqb-same n = eq-eqb n n refl
@@ -43,8 +42,7 @@ deep_items : (d e : ℕ) (tight : Bool) (r : Rows) → d < e → map (tightened 
 unfolding items_of
 deep_items d e tight End h = refl
 deep_items d e tight (OneOf row inner next) h =
-    map_parts d _ _ _ _ _ _ (deep_row d e tight (is_loose inner) row.start row.what h)
-    (deep_items d (suc e) (tight_in tight (is_loose inner) row.what) inner (omega arith)) (deep_items d e tight next h)
+    grind (arith, map_parts, deep_row, deep_items d (suc e) (tight_in tight (is_loose inner) row.what) inner (omega arith), deep_items d e tight next h)
 
 -- No item of a list, and no title or definition of a definition list, is directly in a container.
 abbrev NoItem : What → Type 0
@@ -90,28 +88,22 @@ blocks_titled block gap None next h k = (tt, k)
 blocks_titled block gap (Some ds) next h k = (tt, h)
 
 blocks_leaf : (block : LeafBlock) (gap : Bool) (next : Rows) → AreBlocks next → AreBlocks (leaf_row block gap next)
-blocks_leaf block gap next h =
-    blocks_titled block gap _ next (cond_both (begins_paragraph block.items) _ _ BlocksBeside (λ b. blocks_first next h) (λ b. tt)) h
+blocks_leaf block gap next h = grind (arith, blocks_titled, cond_both, blocks_first)
 
 are_blocks : (quoted : Bool) (before : Before) (last : ℕ) (s : Skeleton) → AreBlocks (rows_of quoted before last s)
 unfolding rows_of
 are_blocks quoted before last Nil = tt
 are_blocks quoted before last (Then BlankLine next) = are_blocks quoted (after_blank quoted before) last next
-are_blocks quoted before last (Then (Block b) next) =
-    blocks_leaf b (gap_before before b) _ (are_blocks quoted (after_block before b) last next)
+are_blocks quoted before last (Then (Block b) next) = blocks_leaf b (gap_before before b) _ (are_blocks quoted (after_block before b) last next)
 are_blocks quoted before last (Node head e kids next) =
     blocks_container last head.opener head.line head.start e before.counted _ _ (are_blocks quoted _ last next)
 
 -- no block quote and no list is a paragraph
-same_at : (t : Bool) (d : ℕ) (x : Item) → ◌≡◌ {A = ℕ × Item} (d, if t then x else x) (d, x)
-same_at true d x = refl
-same_at false d x = refl
-
 tight_row : (d : ℕ) (loose : Bool) (start : ℕ) (w : What) → NoItem w → map (tightened d) (row_items d false loose start w) ≡ row_items d true loose start w
 tight_row d loose start (ALeaf b) h = refl
 tight_row d loose start (ATitle b) h = absurd h
 tight_row d loose start (ADefinition columns x) h = absurd h
-tight_row d loose start w h = ap (λ z. z ∷ []) (same_at (eqb d d) d _)
+tight_row d loose start w h = rw (eqb-same d)
 
 block_in : (loose : Bool) (w : What) → NoItem w → tight_in false loose w ≡ tight_in true loose w
 block_in loose (AnItem columns x) h = absurd h
@@ -123,22 +115,13 @@ block_in loose w h = refl
 tight_items : (d : ℕ) (r : Rows) → AreBlocks r → map (tightened d) (items_of d false r) ≡ items_of d true r
 unfolding items_of
 tight_items d End h = refl
-tight_items d (OneOf row inner next) h =
-    map_parts d _ _ _ _ _ _ (tight_row d (is_loose inner) row.start row.what h.0)
-    (deep_items d (suc d) (tight_in false (is_loose inner) row.what) inner (omega arith)
-    ∙ ap (λ z. items_of (suc d) z inner) (block_in (is_loose inner) row.what h.0))
-    (tight_items d next h.1)
+tight_items d (OneOf row inner next) h = grind (arith, map_parts, tight_row, deep_items, block_in, tight_items d next h.1)
 
 tight_front : (nodes more : List (ℕ × Item)) (o d : ℕ) → o ≤ length nodes
     → map_from (tightened d) o (nodes ++ more) ≡ map_from (tightened d) o nodes ++ map (tightened d) more
 tight_front nodes more zero d h = map-append (tightened d) nodes more
 tight_front [] more (suc o) d h = absurd (omega arith)
 tight_front (x ∷ nodes) more (suc o) d h = ap (λ z. x ∷ z) (tight_front nodes more o d (omega arith))
-
-length-front : (nodes : List (ℕ × Item)) (o d : ℕ) → length (map_from (tightened d) o nodes) ≡ length nodes
-length-front nodes zero d = length-map nodes (tightened d)
-length-front [] (suc o) d = refl
-length-front (x ∷ nodes) (suc o) d = ap suc (length-front nodes o d)
 
 pub modify-append : (nodes more : List (ℕ × Item)) (k : ℕ) (g : Item → Item) → k < length nodes → modify (nodes ++ more) k g ≡ modify nodes k g ++ more
 modify-append [] more k g h = absurd (omega arith)
@@ -151,14 +134,14 @@ pub list_closed-append : (nodes more : List (ℕ × Item)) (o d : ℕ) (loose : 
 unfolding list_closed
 list_closed-append nodes more o d true e h = modify-append nodes more o _ h
 list_closed-append nodes more o d false e h =
-    let l = length-front nodes o d in
+    let l = map_from-length (tightened d) o nodes in
     ap (λ z. modify z o (λ x. record { start = x.start; «end» = e; body = flagged false x.body })) (tight_front nodes more o d (omega arith))
     ∙ modify-append (map_from (tightened d) o nodes) (map (tightened d) more) o _ (omega arith)
 
 pub length-closed : (nodes : List (ℕ × Item)) (o d : ℕ) (loose : Bool) (e : ℕ) → length (list_closed nodes o d loose e) ≡ length nodes
 unfolding list_closed
 length-closed nodes o d true e = length-modify nodes o _
-length-closed nodes o d false e = length-modify (map_from (tightened d) o nodes) o _ ∙ length-front nodes o d
+length-closed nodes o d false e = length-modify (map_from (tightened d) o nodes) o _ ∙ map_from-length (tightened d) o nodes
 
 up_node : (d : ℕ) (x : Item) → tightened (suc (suc d)) (suc d, x) ≡ (suc d, x)
 up_node d x = let t : eqb (suc d) (suc (suc d)) ≡ false = grind (arith, nat_tests) in rw t refl
@@ -169,7 +152,4 @@ pub closed_item : (d last : ℕ) (loose : Bool) (x : Item) (kids : Skeleton)
     let items : List (ℕ × Item) = (suc d, x) ∷ items_of (suc (suc d)) false inner in
     (if loose then items else map (tightened (suc (suc d))) items) ≡ (suc d, x) ∷ items_of (suc (suc d)) (not loose) inner)
 closed_item d last true x kids = refl
-closed_item d last false x kids =
-    let a = up_node d x in
-    let b = tight_items (suc (suc d)) (rows_of false nothing last kids) (are_blocks false nothing last kids) in
-    cc
+closed_item d last false x kids = grind (arith, up_node, tight_items, are_blocks)

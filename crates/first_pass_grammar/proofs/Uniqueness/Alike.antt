@@ -1,36 +1,37 @@
 -- Items that read alike: they differ at most in indices that name the same text, alignments or attributes.
 use Rattle.std.proofs.Common.{◌≡◌, ℕ, zero, suc, ◌+◌, ◌==◌, Bool, true, false, List, [], ◌∷◌, ◌++◌, map, Option, Some, None, refl, sym, ap, ◌∙◌}
-use Rattle.std.proofs.Common.{if◌then◌else◌, option_and_then, option_map}
+use Rattle.std.proofs.Common.{if◌then◌else◌, option_and_then, option_map, arith}
 use Rattle.first_pass_grammar.proofs.Common.{map-append, Alignment, AlignmentIndex, CowIndex, HeadingIndex, HeadingLevel, Item, ItemBody, Heading}
-use Rattle.first_pass_grammar.proofs.Common.{SynthesizeText, FencedCodeBlock, Table, Paragraph, FootnoteDefinition, Attributes, at_depth, is_text}
-use Rattle.first_pass_grammar.proofs.Common.{is_escaped, tight_body, tightened, Place, offset, line_end, leaves, touches, add_token, add_tokens, NamesLabel}
-use Rattle.first_pass_grammar.proofs.Common.{Names, NamesText, NamesAlignments, NamesAttributes, TextAt, Named, AText, index_of, only_kind, named, read}
-use Rattle.first_pass_grammar.proofs.Common.{read_nodes, Document, document, block_with, AreColumns, Ranges, range_text, range_html, raw_items, AreRawLines}
-use Rattle.first_pass_grammar.proofs.Common.{spaces, LeafBlock, Leaf, BlankLine, Block, Opener, FootnoteMarker, label_of, Head, opened, Skeleton, Nil, Then}
-use Rattle.first_pass_grammar.proofs.Common.{Node, Continues, Opening, OpensLeaf, OpensNode, Kind, node_of, is_paragraph_body}
-use Rattle.first_pass_grammar.specs.Names.{AlignmentsAt, AttributesAt, Alignments}
-use Rattle.first_pass_grammar.specs.Names.{OfHeading}
+use Rattle.first_pass_grammar.proofs.Common.{SynthesizeText, FencedCodeBlock, Table, Paragraph, FootnoteDefinition, Attributes, at_depth, is_text, is_escaped}
+use Rattle.first_pass_grammar.proofs.Common.{tight_body, tightened, Place, offset, line_end, leaves, touches, add_token, add_tokens, NamesLabel, Names}
+use Rattle.first_pass_grammar.proofs.Common.{NamesText, NamesAlignments, NamesAttributes, TextAt, Named, AText, index_of, only_kind, named, read, read_nodes}
+use Rattle.first_pass_grammar.proofs.Common.{Document, document, block_with, AreColumns, Ranges, raw_items, AreRawLines, spaces, LeafBlock, Leaf, BlankLine}
+use Rattle.first_pass_grammar.proofs.Common.{Block, Opener, FootnoteMarker, label_of, Head, opened, Skeleton, Nil, Then, Node, Continues, Opening, OpensLeaf}
+use Rattle.first_pass_grammar.proofs.Common.{OpensNode, Kind, node_of, is_paragraph_body}
+use Rattle.first_pass_grammar.specs.Names.{AttributesAt, OfHeading}
 use Rattle.first_pass_grammar.proofs.Names.NoIndex.{IsWithoutIndex, HaveNoIndex, only_read}
 use Rattle.first_pass_grammar.proofs.Each.EachOpening.{HoldsFrom}
 use Rattle.first_pass_grammar.proofs.Sequences.PlacesKept.{Anywhere}
-use Rattle.first_pass_grammar.proofs.Each.EachToken.{range_text_each, raw_each}
+use Rattle.first_pass_grammar.proofs.Each.EachToken.{raw_each}
+use Rattle.first_pass_grammar.proofs.Names.NamedItems.{IsFree}
 
 -- the same document with other names for the indices
 abbrev pub with_names : Document → Names → Document
 with_names d n = document d.text d.options n
 
--- chains that read alike; the next definition is for nodes
+-- chains that read alike
 abbrev pub AlikeChains : Names → Names → List Item → List Item → Type 0
 AlikeChains m n xs ys = map (read m) xs ≡ map (read n) ys
 
+-- nodes that read alike
 abbrev pub AlikeNodes : Names → Names → List (ℕ × Item) → List (ℕ × Item) → Type 0
 AlikeNodes m n xs ys = read_nodes m xs ≡ read_nodes n ys
 
--- leaf blocks, openings and skeletons that differ at most in nodes that read alike
 -- the kind of a leaf block, the start of its line, and its own start
 abbrev pub stands : LeafBlock → Kind × ℕ × ℕ
 stands b = (b.kind, b.line, b.start)
 
+-- leaf blocks that differ at most in nodes that read alike
 abbrev pub AlikeLeaf : Names → Names → Leaf → Leaf → Type 0
 AlikeLeaf m n BlankLine BlankLine = Unit {0}
 AlikeLeaf m n (Block b) (Block b') = (stands b ≡ stands b') × AlikeNodes m n b.items b'.items × (b.gap ≡ b'.gap) × (b.definitions ≡ b'.definitions)
@@ -71,6 +72,7 @@ only_label o = refl
 pub label_alike : (head head' : Head) → only_head head ≡ only_head head' → label_of head.opener ≡ label_of head'.opener
 label_alike head head' is = sym (only_label head.opener) ∙ ap (λ (h : Head). label_of h.opener) is ∙ only_label head'.opener
 
+-- openings and skeletons that differ at most in nodes that read alike
 abbrev pub AlikeOpening : Names → Names → Opening → Opening → Type 0
 AlikeOpening m n (OpensLeaf leaf there left) (OpensLeaf leaf' there' left') = AlikeLeaf m n leaf leaf' × (there ≡ there') × HoldsNoIndex there × (left ≡ left')
 AlikeOpening m n (OpensNode head inside following) (OpensNode head' inside' following') =
@@ -94,10 +96,7 @@ pub chains_append : (m n : Names) (xs xs' ys ys' : List Item) → AlikeChains m 
 chains_append m n xs xs' ys ys' h k = let a = map-append (read m) xs ys in let b = map-append (read n) xs' ys' in cc
 
 pub nodes_append : (m n : Names) (xs xs' ys ys' : List (ℕ × Item)) → AlikeNodes m n xs xs' → AlikeNodes m n ys ys' → AlikeNodes m n (xs ++ ys) (xs' ++ ys')
-nodes_append m n xs xs' ys ys' h k =
-    let a : read_nodes m (xs ++ ys) ≡ read_nodes m xs ++ read_nodes m ys = map-append (λ (x : ℕ × Item). (x.0, read m x.1)) xs ys in
-    let b : read_nodes n (xs' ++ ys') ≡ read_nodes n xs' ++ read_nodes n ys' = map-append (λ (x : ℕ × Item). (x.0, read n x.1)) xs' ys' in
-    cc
+nodes_append m n xs xs' ys ys' h k = grind (arith, map-append)
 
 -- a chain that was read with one more item that was read; the item may be joined to the chain
 abbrev join_read : List (Item × Option Named) → Item × Option Named → List (Item × Option Named)
@@ -109,17 +108,16 @@ abbrev join_reads : List (Item × Option Named) → List (Item × Option Named) 
 join_reads chain [] = chain
 join_reads chain (x ∷ xs) = join_reads (join_read chain x) xs
 
--- an index does not change whether a body is a text, an escaped one or a paragraph
-abbrev pub text_tests : ItemBody → Bool × Bool × Bool
-text_tests b = (is_text b, is_escaped b, is_paragraph_body b)
-
-pub only_tests : (b : ItemBody) → text_tests (only_kind b) ≡ text_tests b
-only_tests (SynthesizeText ix) = refl
-only_tests (FencedCodeBlock ix) = refl
-only_tests (FootnoteDefinition ix) = refl
-only_tests (Table ix) = refl
-only_tests (Heading level ix) = refl
-only_tests b = refl
+-- an index changes neither whether a body is a text, an escaped one or a paragraph, nor how it is tightened
+pub kind_tests : (b : ItemBody) → (is_text (only_kind b) ≡ is_text b) × (is_escaped (only_kind b) ≡ is_escaped b)
+    × (is_paragraph_body (only_kind b) ≡ is_paragraph_body b) × (only_kind (tight_body b) ≡ tight_body (only_kind b))
+kind_tests Paragraph = (refl, refl, refl, refl)
+kind_tests (SynthesizeText ix) = (refl, refl, refl, refl)
+kind_tests (FencedCodeBlock ix) = (refl, refl, refl, refl)
+kind_tests (FootnoteDefinition ix) = (refl, refl, refl, refl)
+kind_tests (Table ix) = (refl, refl, refl, refl)
+kind_tests (Heading level ix) = (refl, refl, refl, refl)
+kind_tests b = (refl, refl, refl, refl)
 
 read_joined : (m : Names) (t : Bool) (x y : Item)
     → map (read m) (if t then record x { «end» = y.«end» } ∷ [] else x ∷ y ∷ [])
@@ -129,8 +127,7 @@ read_joined m false x y = refl
 
 read_token : (m : Names) (chain : List Item) (y : Item) → map (read m) (add_token chain y) ≡ join_read (map (read m) chain) (read m y)
 read_token m [] y = refl
-read_token m (x ∷ []) y =
-    rw (ap (λ z. z.0) (only_tests x.body), ap (λ z. z.0) (only_tests y.body)) (read_joined m (touches x y) x y)
+read_token m (x ∷ []) y = rw ((kind_tests x.body).0, (kind_tests y.body).0) (read_joined m (touches x y) x y)
 read_token m (x ∷ z ∷ zs) y = ap (λ r. read m x ∷ r) (read_token m (z ∷ zs) y)
 
 read_tokens : (m : Names) (chain tokens : List Item) → map (read m) (add_tokens chain tokens) ≡ join_reads (map (read m) chain) (map (read m) tokens)
@@ -141,14 +138,7 @@ pub tokens_alike : (m n : Names) (chain chain' tokens tokens' : List Item)
     → AlikeChains m n chain chain' → AlikeChains m n tokens tokens' → AlikeChains m n (add_tokens chain tokens) (add_tokens chain' tokens')
 tokens_alike m n chain chain' tokens tokens' h k = let a = read_tokens m chain tokens in let b = read_tokens n chain' tokens' in cc
 
--- what an index names
-named_text : (names : Names) (ix : CowIndex) (text : List ℕ) → NamesText names ix text → named names (TextAt ix) ≡ Some (AText text)
-named_text names ix text (cow, at, is) = rw at (ap (λ z. Some (AText z)) is)
-
-named_alignments : (names : Names) (ix : AlignmentIndex) (alignments : List Alignment) → NamesAlignments names ix alignments
-    → named names (AlignmentsAt ix) ≡ Some (Alignments alignments)
-named_alignments names ix alignments at = rw at refl
-
+-- what the index of attributes names
 named_attributes : (names : Names) (ix : Option HeadingIndex) (attributes : Option Attributes) → NamesAttributes names ix attributes
     → option_and_then (named names) (option_map AttributesAt ix) ≡ option_map OfHeading attributes
 named_attributes names None None h = refl
@@ -173,33 +163,24 @@ indexed_alike : (m n : Names) (start «end» : ℕ) (body body' : ItemBody) → 
     → read m (node_of start «end» body) ≡ read n (node_of start «end» body')
 indexed_alike m n start end body body' h k = λ i. (node_of start end (h i), k i)
 
+-- two indices that name the same text
+texts_alike : (m n : Names) (i j : CowIndex) (text : List ℕ) → NamesText m i text → NamesText n j text → named m (TextAt i) ≡ named n (TextAt j)
+texts_alike m n i j text (cow, at, is) (other, at', is') = rw (at, at') (ap (λ z. Some (AText z)) (is ∙ sym is'))
+
 -- Columns read alike, and so do raw lines.
 columns_alike : (m n : Names) (owed at : ℕ) (xs ys : List Item) → AreColumns m owed at xs → AreColumns n owed at ys → AlikeChains m n xs ys
 columns_alike m n zero at xs ys h k = let e : xs ≡ [] = h in let f : ys ≡ [] = k in cc
 columns_alike m n (suc owed) at xs ys (i, names, e) (j, names', f) =
-    let a = named_text m i (spaces (suc owed)) names in
-    let b = named_text n j (spaces (suc owed)) names' in
-    ap (map (read m)) e ∙ ap (λ (z : Item × Option Named). z ∷ []) (indexed_alike m n at at (SynthesizeText i) (SynthesizeText j) refl (a ∙ sym b))
-    ∙ sym (ap (map (read n)) f)
-
--- a range has no index
-abbrev pub AreFree : Ranges → Type 0
-AreFree range = (from to : ℕ) → HaveNoIndex (range from to)
-
-pub text_free : AreFree range_text
-text_free = range_text_each IsWithoutIndex (λ escaped. refl)
-
-pub html_free : AreFree range_html
-html_free from to = (refl, tt)
+    let own = indexed_alike m n at at (SynthesizeText i) (SynthesizeText j) refl (texts_alike m n i j (spaces (suc owed)) names names') in
+    rw (e, f) (ap (λ (z : Item × Option Named). z ∷ []) own)
 
 -- columns, followed by items without indices
 line_alike : (m n : Names) (owed at : ℕ) (more xs ys : List Item) → HaveNoIndex more
     → (columns : List Item) × AreColumns m owed at columns × (xs ≡ columns ++ more)
     → (columns : List Item) × AreColumns n owed at columns × (ys ≡ columns ++ more) → AlikeChains m n xs ys
-line_alike m n owed at more xs ys free (c, h, e) (c', k, f) =
-    ap (map (read m)) e ∙ chains_append m n c c' more more (columns_alike m n owed at c c' h k) (only_read m n more free) ∙ sym (ap (map (read n)) f)
+line_alike m n owed at more xs ys free (c, h, e) (c', k, f) = grind (arith, chains_append, columns_alike, only_read)
 
-pub raw_alike : (range : Ranges) → AreFree range → (d : Document) (n : Names) (chain chain' : List Item) (places : List Place) (w w' : List Item)
+pub raw_alike : (range : Ranges) → IsFree range → (d : Document) (n : Names) (chain chain' : List Item) (places : List Place) (w w' : List Item)
     → AlikeChains d.names n chain chain' → AreRawLines range d chain places w → AreRawLines range (with_names d n) chain' places w' → AlikeChains d.names n w w'
 unfolding AreRawLines
 raw_alike range free d n chain chain' [] w w' a e f = ap (map (read d.names)) e ∙ a ∙ sym (ap (map (read n)) f)
@@ -217,19 +198,15 @@ read_below m (x ∷ xs) = ap (λ z. (1, read m x) ∷ z) (read_below m xs)
 pub block_alike : (m n : Names) (start «end» : ℕ) (body body' : ItemBody) (chain chain' : List Item)
     → read m (node_of start «end» body) ≡ read n (node_of start «end» body')
     → AlikeChains m n chain chain' → AlikeNodes m n (block_with start «end» body chain) (block_with start «end» body' chain')
-block_alike m n start end body body' chain chain' h k =
-    ap (λ z. (0, z) ∷ read_nodes m (at_depth 1 (leaves chain))) h
-    ∙ ap (λ z. (0, read n (node_of start end body')) ∷ z) (read_below m chain ∙ ap (map (λ (z : Item × Option Named). (1, z))) k ∙ sym (read_below n chain'))
+block_alike m n start end body body' chain chain' h k = grind (arith, read_below)
 
 pub fence_alike : (m n : Names) (start «end» : ℕ) (i j : CowIndex) (info : List ℕ)
     → NamesText m i info → NamesText n j info → read m (node_of start «end» (FencedCodeBlock i)) ≡ read n (node_of start «end» (FencedCodeBlock j))
-fence_alike m n start end i j info h k =
-    indexed_alike m n start end (FencedCodeBlock i) (FencedCodeBlock j) refl (named_text m i info h ∙ sym (named_text n j info k))
+fence_alike m n start end i j info h k = indexed_alike m n start end (FencedCodeBlock i) (FencedCodeBlock j) refl (texts_alike m n i j info h k)
 
 pub table_alike : (m n : Names) (start «end» : ℕ) (i j : AlignmentIndex) (alignments : List Alignment) → NamesAlignments m i alignments
     → NamesAlignments n j alignments → read m (node_of start «end» (Table i)) ≡ read n (node_of start «end» (Table j))
-table_alike m n start end i j alignments h k =
-    indexed_alike m n start end (Table i) (Table j) refl (named_alignments m i alignments h ∙ sym (named_alignments n j alignments k))
+table_alike m n start end i j alignments h k = indexed_alike m n start end (Table i) (Table j) refl (rw (h, k) refl)
 
 -- footnote definitions whose indices name the same label
 pub label_named : (m n : Names) (columns : ℕ) (i j : CowIndex) (written label : List ℕ) → NamesLabel m i written label → NamesLabel n j written label
@@ -237,25 +214,14 @@ pub label_named : (m n : Names) (columns : ℕ) (i j : CowIndex) (written label 
 label_named m n columns i j written label h k =
     ap (λ (z : Item × Option Named). (0, z) ∷ [])
     (indexed_alike m n 0 0 (FootnoteDefinition i) (FootnoteDefinition j) refl
-    (named_text m i label (h.named, h.at, h.text) ∙ sym (named_text n j label (k.named, k.at, k.text))))
+    (texts_alike m n i j label (h.named, h.at, h.text) (k.named, k.at, k.text)))
 
 pub heading_alike : (m n : Names) (start «end» : ℕ) (level : HeadingLevel) (i j : Option HeadingIndex) (attributes : Option Attributes)
     → NamesAttributes m i attributes
     → NamesAttributes n j attributes → read m (node_of start «end» (Heading level i)) ≡ read n (node_of start «end» (Heading level j))
-heading_alike m n start end level i j attributes h k =
-    indexed_alike m n start end (Heading level i) (Heading level j) (ap (Heading level) (both_given m n i j attributes h k))
-    (named_attributes m i attributes h ∙ sym (named_attributes n j attributes k))
+heading_alike m n start end level i j attributes h k = grind (arith, indexed_alike, both_given, named_attributes)
 
 -- Tightening a paragraph does not change an item's index.
-only_tight : (b : ItemBody) → only_kind (tight_body b) ≡ tight_body (only_kind b)
-only_tight Paragraph = refl
-only_tight (SynthesizeText ix) = refl
-only_tight (FencedCodeBlock ix) = refl
-only_tight (FootnoteDefinition ix) = refl
-only_tight (Table ix) = refl
-only_tight (Heading level ix) = refl
-only_tight b = refl
-
 tight_index : (b : ItemBody) → index_of (tight_body b) ≡ index_of b
 tight_index Paragraph = refl
 tight_index b = refl
@@ -266,14 +232,12 @@ tight_read depth x = (x.0, if x.0 == depth then (node_of x.1.0.start x.1.0.«end
 
 read_tight_by : (m : Names) (t : Bool) (x : Item) → read m (if t then node_of x.start x.«end» (tight_body x.body) else x)
     ≡ (if t then (node_of x.start x.«end» (tight_body (read m x).0.body), (read m x).1) else read m x)
-read_tight_by m true x = rw (only_tight x.body, tight_index x.body) refl
+read_tight_by m true x = rw ((kind_tests x.body).3, tight_index x.body) refl
 read_tight_by m false x = refl
 
 pub read_tight : (m : Names) (depth : ℕ) (nodes : List (ℕ × Item)) → read_nodes m (map (tightened depth) nodes) ≡ map (tight_read depth) (read_nodes m nodes)
 read_tight m depth [] = refl
-read_tight m depth (x ∷ nodes) =
-    let a = read_tight_by m (x.0 == depth) x.1 in
-    let b = read_tight m depth nodes in ap (λ z. (x.0, z) ∷ read_nodes m (map (tightened depth) nodes)) a ∙ ap (λ z. tight_read depth (x.0, read m x.1) ∷ z) b
+read_tight m depth (x ∷ nodes) = grind (arith, read_tight_by, read_tight m depth nodes)
 
 pub read_at_depth : (m : Names) (depth : ℕ) (nodes : List (ℕ × Item)) → read_nodes m (at_depth depth nodes) ≡ at_depth depth (read_nodes m nodes)
 read_at_depth m depth [] = refl

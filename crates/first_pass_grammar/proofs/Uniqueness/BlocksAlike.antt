@@ -1,7 +1,6 @@
 -- Rows with cells that read alike read alike themselves.
-use Rattle.std.proofs.Common.{◌≡◌, ℕ, ◌-◌, List, [], ◌∷◌, ◌++◌, length, take, replicate, refl, sym, ap, ◌∙◌, subst}
-use Rattle.first_pass_grammar.proofs.Common.{AllZip, Item, ItemBody, at_depth, block_of, Names, read, read_nodes, node_of, cell_block, inserted}
-use Rattle.first_pass_grammar.proofs.Common.{side_by_side, row_cells, row_block}
+use Rattle.std.proofs.Common.{◌≡◌, ℕ, ◌-◌, List, [], ◌∷◌, ◌++◌, length, take, replicate, refl, ap, subst, arith}
+use Rattle.first_pass_grammar.proofs.Common.{AllZip, Item, ItemBody, block_of, Names, read, node_of, cell_block, inserted, side_by_side, row_cells, row_block}
 use Rattle.std.proofs.lemmas.List.Elements.{length_all_zip}
 use Rattle.first_pass_grammar.proofs.Each.EachPair.{first_pairs, pair_copies, both_pairs}
 use Rattle.first_pass_grammar.proofs.Uniqueness.Alike.{AlikeNodes, nodes_append, read_at_depth}
@@ -21,9 +20,7 @@ side_alike m n xs ys h = absurd h
 -- blocks read alike if their items and their children do
 pub own_alike : (m n : Names) (x y : Item) (kids kids' : List (ℕ × Item)) → read m x ≡ read n y → AlikeNodes m n kids kids'
     → AlikeNodes m n (block_of x kids) (block_of y kids')
-own_alike m n x y kids kids' h k =
-    ap (λ z. (0, z) ∷ read_nodes m (at_depth 1 kids)) h
-    ∙ ap (λ z. (0, read n y) ∷ z) (read_at_depth m 1 kids ∙ ap (at_depth 1) k ∙ sym (read_at_depth n 1 kids'))
+own_alike m n x y kids kids' h k = grind (arith, read_at_depth)
 
 pub row_alike : (m n : Names) (body : ItemBody) (columns start : ℕ) (cells cells' : List (List (ℕ × Item))) (stop : ℕ)
     → read m (node_of start stop body) ≡ read n (node_of start stop body) → AlikeBlocks m n cells cells'

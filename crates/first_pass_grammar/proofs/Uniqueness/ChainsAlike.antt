@@ -1,13 +1,13 @@
 -- Lines whose tokens differ only in the indices of the texts that they name read alike, and so do their chains.
-use Rattle.std.proofs.Common.{◌≡◌, ℕ, ◌+◌, ◌-◌, ◌==◌, ◌&&◌, Bool, true, false, nat_lt, List, [], ◌∷◌, ◌++◌, map, slice_get, Option, Some, None, IfSome}
-use Rattle.std.proofs.Common.{refl, sym, ap, ◌∙◌, subst, if◌then◌else◌, option_and_then, option_map}
-use Rattle.first_pass_grammar.proofs.Common.{CowStr, text_of, CowIndex, Item, ItemBody, SynthesizeText, is_escaped, cut_item, text_token, add_token}
-use Rattle.first_pass_grammar.proofs.Common.{add_text, is_backslash_break, close_break, cut, Names, Named, AText, TextAt, index_of, only_kind, named, read}
-use Rattle.first_pass_grammar.proofs.Common.{chain_end, add_break, heading_chain, marker_items, node_of}
+use Rattle.std.proofs.Common.{◌≡◌, ℕ, ◌+◌, ◌-◌, ◌==◌, ◌&&◌, Bool, true, false, nat_lt, List, [], ◌∷◌, ◌++◌, map, slice_get, Option, Some, None, IfSome, refl}
+use Rattle.std.proofs.Common.{sym, ap, ◌∙◌, subst, if◌then◌else◌, option_and_then, option_map, arith}
+use Rattle.first_pass_grammar.proofs.Common.{CowStr, text_of, CowIndex, Item, ItemBody, SynthesizeText, is_escaped, cut_item, text_token, add_token, add_text}
+use Rattle.first_pass_grammar.proofs.Common.{close_break, cut, Names, Named, AText, TextAt, index_of, only_kind, named, read, chain_end}
+use Rattle.first_pass_grammar.proofs.Common.{add_break, heading_chain, marker_items}
 use Rattle.first_pass_tokens.specs.Alike.{text_among, BodiesAlike, ItemsAlike, AreAlike}
 use Rattle.first_pass_grammar.proofs.Names.NoIndex.{HasNoIndex, HasTextIndex, only_reads}
 use Rattle.first_pass_grammar.proofs.Each.EachToken.{AreEach}
-use Rattle.first_pass_grammar.proofs.Uniqueness.Alike.{AlikeChains, chains_append, tokens_alike, only_tests, chosen}
+use Rattle.first_pass_grammar.proofs.Uniqueness.Alike.{AlikeChains, chains_append, tokens_alike, kind_tests, chosen}
 
 -- the index of a text names the text at its place among those that are named
 read_text : (o : Option CowStr) → option_map (λ (cow : CowStr). AText (text_of cow)) o ≡ option_map AText (option_map text_of o)
@@ -22,27 +22,19 @@ abbrev ReadAlike : Names → Names → ItemBody → ItemBody → Type 0
 ReadAlike m n b c = (only_kind b ≡ only_kind c) × (option_and_then (named m) (index_of b) ≡ option_and_then (named n) (index_of c))
 
 none_read : (m n : Names) (b c : ItemBody) → index_of b ≡ None → b ≡ c → ReadAlike m n b c
-none_read m n b c none same =
-    let other : index_of c ≡ None = ap index_of (sym same) ∙ none in
-    (ap only_kind same, ap (option_and_then (named m)) none ∙ sym (ap (option_and_then (named n)) other))
+none_read m n b c none same = grind arith
 
 bodies_read : (m n : Names) (b c : ItemBody) → HasTextIndex b → BodiesAlike m.texts n.texts b c → ReadAlike m n b c
-bodies_read m n (SynthesizeText ix) c free h =
-    subst (ReadAlike m n (SynthesizeText ix)) (sym h.1) (refl, texts_read m n ix h.0 h.2)
+bodies_read m n (SynthesizeText ix) c free h = subst (ReadAlike m n (SynthesizeText ix)) (sym h.1) (refl, texts_read m n ix h.0 h.2)
 bodies_read m n b c free h = none_read m n b c free h
 
 item_reads : (m n : Names) (x y : Item) → HasTextIndex x.body → ItemsAlike m.texts n.texts x y → read m x ≡ read n y
-item_reads m n x y free h =
-    let b = bodies_read m n x.body y.body free h.bodies in
-    λ i. (node_of (h.starts i) (h.ends i) (b.0 i), b.1 i)
+item_reads m n x y free h = grind (arith, bodies_read)
 
 -- tokens that are alike read alike
 pub alike_reads : (m n : Names) (xs ys : List Item) → AreEach HasTextIndex xs → AreAlike m.texts n.texts xs ys → AlikeChains m n xs ys
 alike_reads m n [] [] free h = refl
-alike_reads m n (x ∷ xs) (y ∷ ys) free h =
-    let first = item_reads m n x y free.0 h.0 in
-    let more = alike_reads m n xs ys free.1 h.1 in
-    λ i. first i ∷ more i
+alike_reads m n (x ∷ xs) (y ∷ ys) free h = grind (arith, item_reads, alike_reads m n xs ys free.1 h.1)
 alike_reads m n xs ys free h = absurd h
 
 -- chains with a text added to each
@@ -55,9 +47,7 @@ text_alike m n from to escaped xs us h =
 -- chains with a break added to each, or with the part of the break that stays after the last line
 pub close_alike : (m n : Names) (o : Option Item) (xs us : List Item) → AlikeChains m n xs us → AlikeChains m n (close_break o xs) (close_break o us)
 close_alike m n None xs us h = h
-close_alike m n (Some x) xs us h =
-    chosen (AlikeChains m n) (is_backslash_break x.body) _ (add_text x.start (x.start + 1) false xs) (add_text x.start (x.start + 1) false us) xs us refl
-    (text_alike m n x.start (x.start + 1) false xs us h) h
+close_alike m n (Some x) xs us h = grind (arith, chosen, text_alike)
 
 pub break_alike : (m n : Names) (o : Option Item) (xs us : List Item) → IfSome o HasNoIndex → AlikeChains m n xs us
     → AlikeChains m n (add_break o xs) (add_break o us)
@@ -68,9 +58,7 @@ break_alike m n (Some x) xs us free h = chains_append m n xs us (x ∷ []) (x �
 pub marked_alike : (m n : Names) (marker : Option Item) (xs us : List Item) → IfSome marker HasNoIndex → AlikeChains m n xs us
     → AlikeChains m n (marker_items marker ++ xs) (marker_items marker ++ us)
 marked_alike m n None xs us free h = h
-marked_alike m n (Some x) xs us free h =
-    let first = only_reads m n x free in
-    λ i. first i ∷ h i
+marked_alike m n (Some x) xs us free h = grind (arith, only_reads)
 
 -- chains that read alike end at the same place
 abbrev end_read : ℕ → List (Item × Option Named) → ℕ
@@ -109,7 +97,7 @@ cut_by m e x xs rest false false v h = refl
 read_cut : (m : Names) (e : ℕ) (xs : List Item) → map (read m) (cut e xs) ≡ cut_read e (map (read m) xs)
 read_cut m e [] = refl
 read_cut m e (x ∷ xs) =
-    rw (ap (λ z. z.1) (only_tests x.body))
+    rw (kind_tests x.body).1
     (cut_by m e x (cut e xs) _ (nat_lt x.start e) (is_escaped x.body && (x.start == e)) (nat_lt e x.«end») (read_cut m e xs))
 
 pub cut_alike : (m n : Names) (e : ℕ) (xs us : List Item) → AlikeChains m n xs us → AlikeChains m n (cut e xs) (cut e us)
@@ -118,5 +106,4 @@ cut_alike m n e xs us h = read_cut m e xs ∙ ap (cut_read e) h ∙ sym (read_cu
 pub heading_chain_alike : (m n : Names) (kept start : ℕ) (xs us : List Item) → AlikeChains m n xs us
     → AlikeChains m n (heading_chain kept start xs) (heading_chain kept start us)
 unfolding heading_chain
-heading_chain_alike m n kept start xs us h =
-    chosen (AlikeChains m n) (kept == 0) _ [] [] (cut (start + kept) xs) (cut (start + kept) us) refl refl (cut_alike m n (start + kept) xs us h)
+heading_chain_alike m n kept start xs us h = grind (arith, chosen, cut_alike)

@@ -1,8 +1,8 @@
 -- Paragraphs and headings have one chain, apart from the indices of the texts that it names.
 use Rattle.std.proofs.Common.{◌≡◌, inl, inr, ℕ, List, [], ◌∷◌, Option, IfSome, refl, sym, ap, ◌∙◌, subst, true≢false}
-use Rattle.first_pass_grammar.proofs.Common.{HeadingIndex, Item, Place, offset, Inline, MathBraces, Spot, spot, AreLineTokens, add_tokens, close_break}
-use Rattle.first_pass_grammar.proofs.Common.{Names, at_rest, front, unindented, before_attributes, Document, content_at, heading_content, heading_chain}
-use Rattle.first_pass_grammar.proofs.Common.{kept_len, line_bytes, add_break, IsHeading, TextLines, text_lines, AreTextLines}
+use Rattle.first_pass_grammar.proofs.Common.{HeadingIndex, Item, Place, offset, Inline, MathBraces, Spot, spot, AreLineTokens, add_tokens, close_break, Names}
+use Rattle.first_pass_grammar.proofs.Common.{at_rest, front, unindented, before_attributes, Document, content_at, heading_content, heading_chain, kept_len}
+use Rattle.first_pass_grammar.proofs.Common.{line_bytes, add_break, IsHeading, TextLines, text_lines, AreTextLines}
 use Rattle.first_pass_tokens.proofs.AlikeLemmas.{one_line}
 use Rattle.first_pass_grammar.specs.declared.kind.Container.{Container}
 use Rattle.first_pass_grammar.proofs.Names.NoIndex.{IsWithoutIndex, HasNoIndex, HasTextIndex, tokens_textual}
@@ -31,11 +31,7 @@ last_alike : (d : Document) (n : Names) (p : Spot) (chain chain' : List Item) (l
     → EndsText d p chain left t → EndsText (with_names d n) p chain' left u → OneGiven d.names n t u
 last_alike d n p chain chain' left t u same (k, a, b, i, e) (k', a', b', i', e') =
     let o = one_line_read d n (content_at d p) k k' a a' b b' i i' in
-    subst (λ z. OneGiven d.names n z u) (sym e) (
-      add_tokens chain' k',
-      tokens_alike d.names n chain chain' k k' same o.0,
-      e' ∙ ap (λ (z : ℕ × Option Item). text_lines (add_tokens chain' k') z.1 left) (sym o.1),
-    )
+    rw (e, o.1) (add_tokens chain' k', tokens_alike d.names n chain chain' k k' same o.0, e')
 
 -- the lines of a text have one result, apart from indices
 pub one_lines : (d : Document) (n : Names) (path : List Container) (p : Spot) (chain chain' : List Item) (lines : List Place) (t u : TextLines)
@@ -53,8 +49,7 @@ one_lines d n path p chain chain' (line ∷ lines) t u same (k, a, b, i, inr (h,
     let free : IfSome a.1 HasNoIndex = break_each IsWithoutIndex refl (λ by_backslash. refl) d.names.texts (content_at d p) k a i in
     let alike = break_alike d.names n a.1 (add_tokens chain k) (add_tokens chain' k') free (tokens_alike d.names n chain chain' k k' same o.0) in
     one_lines d n path (next b) (add_break a.1 (add_tokens chain k)) (add_break a.1 (add_tokens chain' k')) lines t u alike more
-    (subst (λ (z : ℕ × Option Item). AreTextLines (with_names d n) path (next b) (add_break z.1 (add_tokens chain' k')) lines u) (sym o.1)
-    (subst (λ z. AreTextLines (with_names d n) path (next z) (add_break a'.1 (add_tokens chain' k')) lines u) (sym o.2) more'))
+    (rw (o.1, o.2) more')
 
 -- an ATX heading has one chain, apart from indices, and one end
 pub one_heading : (d : Document) (n : Names) (start : ℕ) (i i' : Option HeadingIndex) (c c' : List Item) (e e' : ℕ) → IsHeading d start i c e

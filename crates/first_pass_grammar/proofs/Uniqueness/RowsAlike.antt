@@ -1,33 +1,35 @@
 -- The rows of skeletons that are alike are alike too, and their items read alike.
-use Rattle.std.proofs.Common.{◌≡◌, ℕ, suc, ◌||◌, ◌&&◌, not, Bool, true, false, List, [], ◌∷◌, ◌++◌, map, Option, Some, None, refl, sym, ap, ◌∙◌, subst}
-use Rattle.std.proofs.Common.{if◌then◌else◌, option_map}
+use Rattle.std.proofs.Common.{◌≡◌, ℕ, suc, ◌||◌, not, Bool, true, false, List, [], ◌∷◌, ◌++◌, map, Option, Some, None, refl, sym, ap, ◌∙◌, subst}
+use Rattle.std.proofs.Common.{if◌then◌else◌, option_map, arith}
 use Rattle.first_pass_grammar.proofs.Common.{Item, DefinitionListTitle, at_depth, Names, Named, read_nodes, Kind, LeafBlock, BlankLine, Block, Head, Opener}
-use Rattle.first_pass_grammar.proofs.Common.{QuoteMarker, ItemMarker, FootnoteMarker, DefinitionMarker, opened, label_of, Skeleton, Nil, Then, Node}
-use Rattle.first_pass_grammar.proofs.Common.{LinkEntry, with_links, with_labels, Before, LastOther, nothing, after_blank, after_block, after_container}
-use Rattle.first_pass_grammar.proofs.Common.{before_end, LastParagraph, is_paragraph_body, begins_paragraph, is_run, is_quote, What, ALeaf, AFootnote, Row}
-use Rattle.first_pass_grammar.proofs.Common.{Rows, End, OneOf, gapped, any_gap, is_loose, Joins, ItemsOf, DefinitionsTo, ATitle, continues_list}
-use Rattle.first_pass_grammar.proofs.Common.{Definitions, apart_after, definitions_of_row, is_untitled, is_run_row, definitions_first, titled, leaf_row}
-use Rattle.first_pass_grammar.proofs.Common.{gap_before, end_of_row, list_until, items_after, list_after, row_of, row_of_leaf, container_row, rows_of}
-use Rattle.first_pass_grammar.proofs.Common.{what_of, as_title, Tables, definitions_of, footnotes_of, with_all_of, node_of, list_flags, row_items, tight_in}
-use Rattle.first_pass_grammar.proofs.Common.{items_of, option_map_or}
+use Rattle.first_pass_grammar.proofs.Common.{QuoteMarker, ItemMarker, FootnoteMarker, DefinitionMarker, opened, Skeleton, Nil, Then, Node, with_links}
+use Rattle.first_pass_grammar.proofs.Common.{with_labels, Before, LastOther, nothing, after_blank, after_block, after_container, before_end, LastParagraph}
+use Rattle.first_pass_grammar.proofs.Common.{is_paragraph_body, begins_paragraph, is_run, is_quote, What, ALeaf, AFootnote, Row, Rows, End, OneOf, gapped}
+use Rattle.first_pass_grammar.proofs.Common.{any_gap, is_loose, Joins, ItemsOf, DefinitionsTo, ATitle, continues_list, Definitions, apart_after, is_untitled}
+use Rattle.first_pass_grammar.proofs.Common.{is_run_row, definitions_first, titled, leaf_row, gap_before, end_of_row, list_until, items_after, list_after}
+use Rattle.first_pass_grammar.proofs.Common.{row_of, row_of_leaf, container_row, rows_of, what_of, as_title, Tables, definitions_of, footnotes_of}
+use Rattle.first_pass_grammar.proofs.Common.{with_all_of, node_of, list_flags, row_items, tight_in, items_of, option_map_or, Last}
 use Rattle.first_pass_items.specs.declared.item.ItemBody.TheVariants.{BlockQuote as BlockQuoteBody, List as ListBody, ListItem as ListItemBody}
 use Rattle.first_pass_items.specs.declared.item.ItemBody.TheVariants.{FootnoteDefinition as FootnoteDefinitionBody, DefinitionList as DefinitionListBody}
 use Rattle.first_pass_items.specs.declared.item.ItemBody.TheVariants.{DefinitionListDefinition as DefinitionBody}
 use Rattle.first_pass_grammar.specs.declared.kind.Container.{Container}
 use Rattle.first_pass_grammar.specs.Before.{is_after_definition, last_after_run}
-use Rattle.first_pass_grammar.specs.Rows.{AQuote, AList, AnItem}
-use Rattle.first_pass_grammar.specs.Rows.{Untitled, WithTitle, Apart, ADefinitionList, ADefinition, end_of_list_before}
-use Rattle.first_pass_grammar.specs.Rows.{in_list}
+use Rattle.first_pass_grammar.specs.Rows.{AQuote, AList, AnItem, Untitled, WithTitle, Apart, ADefinitionList, ADefinition, end_of_list_before, in_list}
 use Rattle.first_pass_grammar.proofs.Uniqueness.Alike.{AlikeNodes, AlikeLeaf, AlikeHead, stands, only_head, only_opener, label_node, opened_alike, chosen}
-use Rattle.first_pass_grammar.proofs.Uniqueness.Alike.{label_alike, only_tests, Alike, nodes_append, tight_read, read_tight, read_at_depth}
+use Rattle.first_pass_grammar.proofs.Uniqueness.Alike.{label_alike, kind_tests, Alike, nodes_append, tight_read, read_tight, read_at_depth}
 
--- a row without the items of its leaf block and the index of its label; the next definition: only these
+-- a leaf block without its items, with what stands of it
+abbrev bare_block : Kind × ℕ × ℕ → Bool → LeafBlock
+bare_block z gap = record { kind = z.0; line = z.1; start = z.2; items = []; gap = gap; definitions = [] }
+
+-- a row without the items of its leaf block and the index of its label
 abbrev bare_what : What → What
-bare_what (ALeaf b) = ALeaf (record { kind = b.kind; line = b.line; start = b.start; items = []; gap = b.gap; definitions = [] })
+bare_what (ALeaf b) = ALeaf (bare_block (stands b) b.gap)
 bare_what (AFootnote index e) = AFootnote (record { 0 = 0 }) e
-bare_what (ATitle b) = ATitle (record { kind = b.kind; line = b.line; start = b.start; items = []; gap = b.gap; definitions = [] })
+bare_what (ATitle b) = ATitle (bare_block (stands b) b.gap)
 bare_what w = w
 
+-- only these items, or a node with this index
 abbrev inside : What → List (ℕ × Item)
 inside (ALeaf b) = b.items
 inside (ATitle b) = b.items
@@ -70,9 +72,7 @@ facts_bare (DefinitionsTo e) last tight loose line start gap w = refl
 
 facts_alike : (m n : Names) (joins : Joins) (last : ℕ) (tight loose : Bool) (row row' : Row) → AlikeRow m n row row'
     → facts joins last tight loose row ≡ facts joins last tight loose row'
-facts_alike m n joins last tight loose row row' a =
-    sym (facts_bare joins last tight loose row.line row.start row.gap row.what) ∙ ap (facts joins last tight loose) a.0
-    ∙ facts_bare joins last tight loose row'.line row'.start row'.gap row'.what
+facts_alike m n joins last tight loose row row' a = grind (arith, facts_bare)
 
 same_list : (m n : Names) (joins : Joins) (row row' : Row) → AlikeRow m n row row' → continues_list joins row.what ≡ continues_list joins row'.what
 same_list m n joins row row' a = ap (λ z. z.0) (facts_alike m n joins 0 false false row row' a)
@@ -80,47 +80,53 @@ same_list m n joins row row' a = ap (λ z. z.0) (facts_alike m n joins 0 false f
 gapped_alike : (m n : Names) (gap gap' : Bool) (r r' : Rows) → gap ≡ gap' → AlikeRows m n r r' → AlikeRows m n (gapped gap r) (gapped gap' r')
 gapped_alike m n gap gap' End End is a = tt
 gapped_alike m n gap gap' (OneOf row inner next) (OneOf row' inner' next') is a =
-    let with_gap : Bool → Row → Row = λ g r. record { what = r.what; line = r.line; start = r.start; gap = g } in
-    ((ap (with_gap gap) a.0.0 ∙ ap (λ g. with_gap g (bare row')) is, a.0.1), a.1, a.2)
+    ((λ i. record { what = (a.0.0 i).what; line = (a.0.0 i).line; start = (a.0.0 i).start; gap = is i }, a.0.1), a.1, a.2)
 gapped_alike m n gap gap' r r' is a = absurd a
 
 any_alike : (m n : Names) (r r' : Rows) → AlikeRows m n r r' → any_gap r ≡ any_gap r'
 unfolding any_gap
 any_alike m n End End a = refl
-any_alike m n (OneOf row inner next) (OneOf row' inner' next') a = ap (λ (z : Row). z.gap || any_gap next) a.0.0
-    ∙ ap (λ z. row'.gap || z) (any_alike m n next next' a.2)
+any_alike m n (OneOf row inner next) (OneOf row' inner' next') a = (let more = any_alike m n next next' a.2 in λ i. (a.0.0 i).gap || more i)
 any_alike m n r r' a = absurd a
 
 loose_alike : (m n : Names) (r r' : Rows) → AlikeRows m n r r' → is_loose r ≡ is_loose r'
 unfolding is_loose
 loose_alike m n End End a = refl
 loose_alike m n (OneOf row inner next) (OneOf row' inner' next') a =
-    ap (λ (z : Row). z.gap || (any_gap inner || is_loose next)) a.0.0
-    ∙ ap (λ z. row'.gap || (z || is_loose next)) (any_alike m n inner inner' a.1)
-    ∙ ap (λ z. row'.gap || (any_gap inner' || z)) (loose_alike m n next next' a.2)
+    let own = any_alike m n inner inner' a.1 in
+    let more = loose_alike m n next next' a.2 in
+    λ i. (a.0.0 i).gap || (own i || more i)
 loose_alike m n r r' a = absurd a
 
 until_alike : (m n : Names) (joins : Joins) (last : ℕ) (r r' : Rows) → AlikeRows m n r r' → list_until joins last r ≡ list_until joins last r'
 until_alike m n joins last End End a = refl
-until_alike m n joins last (OneOf row inner next) (OneOf row' inner' next') a =
-    ap (λ (z : Bool × ℕ × ℕ × Bool × Bool × Bool). if z.0 then z.1 else z.2) (facts_alike m n joins last false false row row' a.0)
+until_alike m n joins last (OneOf row inner next) (OneOf row' inner' next') a = grind (arith, facts_alike)
 until_alike m n joins last r r' a = absurd a
 
 items_alike : (m n : Names) (joins : Joins) (r r' : Rows) → AlikeRows m n r r' → AlikeRows m n (items_after joins r) (items_after joins r')
 items_alike m n joins End End a = tt
-items_alike m n joins (OneOf row inner next) (OneOf row' inner' next') a =
-    chosen (AlikeRows m n) _ _ (gapped row.gap inner) (gapped row'.gap inner') End End (same_list m n joins row row' a.0)
-    (gapped_alike m n row.gap row'.gap inner inner' (ap (λ (z : Row). z.gap) a.0.0) a.1) tt
+items_alike m n joins (OneOf row inner next) (OneOf row' inner' next') a = grind (arith, chosen, same_list, gapped_alike)
 items_alike m n joins r r' a = absurd a
 
 past_alike : (m n : Names) (joins : Joins) (r r' : Rows) → AlikeRows m n r r' → AlikeRows m n (list_after joins r) (list_after joins r')
 past_alike m n joins End End a = a
-past_alike m n joins (OneOf row inner next) (OneOf row' inner' next') a =
-    chosen (AlikeRows m n) _ _ next next' (OneOf row inner next) (OneOf row' inner' next') (same_list m n joins row row' a.0) a.2 a
+past_alike m n joins (OneOf row inner next) (OneOf row' inner' next') a = grind (arith, chosen, same_list)
 past_alike m n joins r r' a = absurd a
 
 ends_alike : (m n : Names) (last : ℕ) (row row' : Row) → AlikeRow m n row row' → end_of_row row.what last ≡ end_of_row row'.what last
 ends_alike m n last row row' a = ap (λ z. z.1) (facts_alike m n (ItemsOf 0) last false false row row' a)
+
+-- a list from alike rows on
+module _ (m n : Names) where
+  list_alike : (last : ℕ) (what : ℕ → What) (joins : Joins) (row row' : Row) (inner inner' next next' : Rows)
+      → ((e : ℕ) → inside (what e) ≡ []) → AlikeRows m n (OneOf row inner next) (OneOf row' inner' next')
+      → AlikeRows m n (in_list last what row inner next joins) (in_list last what row' inner' next' joins)
+  list_alike last what joins row row' inner inner' next next' none a =
+      let until = until_alike m n joins last next next' a.2 in (
+        (λ i. record { what = bare_what (what (until i)); line = (a.0.0 i).line; start = (a.0.0 i).start; gap = (a.0.0 i).gap }, simp none),
+        ((gapped_alike m n false false (OneOf row inner End) (OneOf row' inner' End) refl (a.0, a.1, tt)).0, a.1, items_alike m n joins next next' a.2),
+        past_alike m n joins next next' a.2,
+      )
 
 -- containers with the same opener, before alike rows
 container_alike : (m n : Names) (last : ℕ) (o : Opener) (row row' : Row) (inner inner' next next' : Rows)
@@ -129,21 +135,11 @@ container_alike : (m n : Names) (last : ℕ) (o : Opener) (row row' : Row) (inne
 container_alike m n last (QuoteMarker kind) row row' inner inner' next next' a = a
 container_alike m n last (FootnoteMarker columns index label) row row' inner inner' next next' a = a
 container_alike m n last (ItemMarker byte number columns) row row' inner inner' next next' a =
-    let list : ℕ → Row → Row = λ e r. record { what = AList byte number e; line = r.line; start = r.start; gap = r.gap } in
-    let joins : Joins = ItemsOf byte in (
-      (ap (list (list_until joins last next)) a.0.0 ∙ ap (λ e. list e row') (until_alike m n joins last next next' a.2), refl),
-      ((gapped_alike m n false false (OneOf row inner End) (OneOf row' inner' End) refl (a.0, a.1, tt)).0, a.1, items_alike m n joins next next' a.2),
-      past_alike m n joins next next' a.2,
-    )
+    list_alike m n last (AList byte number) (ItemsOf byte) row row' inner inner' next next' (λ e. refl) a
 container_alike m n last (DefinitionMarker columns) row row' inner inner' next next' a =
-    let list : ℕ → Row → Row = λ e r. record { what = ADefinitionList Untitled e; line = r.line; start = r.start; gap = r.gap } in
-    let joins : Joins = DefinitionsTo (end_of_row row.what last) in
-    let first : Rows = in_list last (ADefinitionList Untitled) row inner next joins in
-    subst (λ e. AlikeRows m n first (in_list last (ADefinitionList Untitled) row' inner' next' (DefinitionsTo e))) (ends_alike m n last row row' a.0) (
-      (ap (list (list_until joins last next)) a.0.0 ∙ ap (λ e. list e row') (until_alike m n joins last next next' a.2), refl),
-      ((gapped_alike m n false false (OneOf row inner End) (OneOf row' inner' End) refl (a.0, a.1, tt)).0, a.1, items_alike m n joins next next' a.2),
-      past_alike m n joins next next' a.2,
-    )
+    let first : Rows = in_list last (ADefinitionList Untitled) row inner next (DefinitionsTo (end_of_row row.what last)) in
+    subst (λ e. AlikeRows m n first (in_list last (ADefinitionList Untitled) row' inner' next' (DefinitionsTo e))) (ends_alike m n last row row' a.0)
+    (list_alike m n last (ADefinitionList Untitled) (DefinitionsTo (end_of_row row.what last)) row row' inner inner' next next' (λ e. refl) a)
 
 -- the rows of a container do not depend on the index of its label, and neither does its row without that index
 only_row : (last : ℕ) (o : Opener) (row : Row) (inner next : Rows) → container_row last (only_opener o) row inner next ≡ container_row last o row inner next
@@ -161,47 +157,33 @@ label_inside o e = refl
 -- the rows of containers that begin alike
 head_alike : (m n : Names) (head head' : Head) (e e' : ℕ) (gap : Bool) → AlikeHead m n head head' → e ≡ e'
     → AlikeRow m n (row_of head e gap) (row_of head' e' gap)
-head_alike m n head head' e e' gap a is =
-    let with_what : Head → What → Row = λ h w. record { what = w; line = h.line; start = h.start; gap = gap } in (
-      ap (with_what head) (sym (only_what head.opener e)) ∙ ap (λ (h : Head). row_of h e gap) a.0 ∙ ap (with_what head') (only_what head'.opener e)
-          ∙ ap (λ x. bare (row_of head' x gap)) is,
-      ap (read_nodes m) (label_inside head.opener e) ∙ a.1 ∙ ap (read_nodes n) (sym (label_inside head'.opener e')),
-    )
+head_alike m n head head' e e' gap a is = grind (arith, only_what, label_inside)
 
 opener_alike : (last : ℕ) (head head' : Head) (row : Row) (inner next : Rows) → only_head head ≡ only_head head'
     → container_row last head.opener row inner next ≡ container_row last head'.opener row inner next
-opener_alike last head head' row inner next is =
-    sym (only_row last head.opener row inner next) ∙ ap (λ (h : Head). container_row last h.opener row inner next) is
-    ∙ only_row last head'.opener row inner next
+opener_alike last head head' row inner next is = grind (arith, only_row)
 
 leaf_bare : (b b' : LeafBlock) (gap : Bool) → stands b ≡ stands b' → b.gap ≡ b'.gap → bare (row_of_leaf b gap) ≡ bare (row_of_leaf b' gap)
-leaf_bare b b' gap is own =
-    let leaf : Kind × ℕ × ℕ → Bool → LeafBlock =
-    λ z g. record { kind = z.0; line = z.1; start = z.2; items = []; gap = g; definitions = [] } in
-    ap (λ z. row_of_leaf (leaf z b.gap) gap) is ∙ ap (λ g. row_of_leaf (leaf (stands b') g) gap) own
+leaf_bare b b' gap is own = λ i. row_of_leaf (bare_block (is i) (own i)) gap
 
--- If of two blocks that are alike one is a paragraph, so is the other.
 abbrev begins_read : List (ℕ × (Item × Option Named)) → Bool
 begins_read [] = false
 begins_read (x ∷ more) = is_paragraph_body x.1.0.body
 
 begins_is : (m : Names) (items : List (ℕ × Item)) → begins_read (read_nodes m items) ≡ begins_paragraph items
 begins_is m [] = refl
-begins_is m (x ∷ items) = ap (λ z. z.2) (only_tests x.1.body)
+begins_is m (x ∷ items) = (kind_tests x.1.body).2
 
+-- If of two blocks that are alike one is a paragraph, so is the other.
 pub begins_alike : (m n : Names) (items items' : List (ℕ × Item)) → AlikeNodes m n items items' → begins_paragraph items ≡ begins_paragraph items'
 begins_alike m n items items' a = sym (begins_is m items) ∙ ap begins_read a ∙ begins_is n items'
 
 -- alike blocks precede what follows them in the same way
 pub after_alike : (m n : Names) (before : Before) (b b' : LeafBlock) → AlikeLeaf m n (Block b) (Block b') → after_block before b ≡ after_block before b'
 after_alike m n before b b' a =
-    let after : Bool → Kind → Bool → Before = λ p k g. record {
-      last = if p then LastParagraph (is_after_definition before.last) else (if is_run k then last_after_run before.last else LastOther);
-      counted = g;
-    } in
-    ap (λ p. after p b.kind b.gap) (begins_alike m n b.items b'.items a.1)
-    ∙ ap (λ (z : Kind × ℕ × ℕ). after (begins_paragraph b'.items) z.0 b.gap) a.0
-    ∙ ap (after (begins_paragraph b'.items) b'.kind) a.2
+    let begins = begins_alike m n b.items b'.items a.1 in
+    let other : Kind → Last = λ k. if is_run k then last_after_run before.last else LastOther in
+    λ i. record { last = if begins i then LastParagraph (is_after_definition before.last) else other (a.0 i).0; counted = a.2 i }
 
 -- the definitions at the start of alike rows
 abbrev AlikeFirst : Names → Names → Option Definitions → Option Definitions → Type 0
@@ -220,67 +202,42 @@ first_alike : (m n : Names) (r r' : Rows) → AlikeRows m n r r' → AlikeFirst 
 unfolding definitions_first
 first_alike m n End End a = tt
 first_alike m n (OneOf row inner next) (OneOf row' inner' next') a =
-    let more : Option Definitions = option_map (apart_after row inner) (definitions_first next) in
-    let more' : Option Definitions = option_map (apart_after row' inner') (definitions_first next') in
-    let gap : row.gap ≡ row'.gap = ap (λ (z : Row). z.gap) a.0.0 in
-    chosen (AlikeFirst m n) _ _ (definitions_of_row row inner next) (definitions_of_row row' inner' next') _ _
-    (ap (λ z. z.4) (facts_alike m n (ItemsOf 0) 0 false false row row' a.0))
-    (ends_alike m n 0 row row' a.0, refl, gapped_alike m n row.gap row'.gap inner inner' gap a.1, a.2)
-    (chosen (AlikeFirst m n) _ _ more more' None None (ap (λ z. z.5) (facts_alike m n (ItemsOf 0) 0 false false row row' a.0))
-    (apart_alike m n row row' inner inner' _ _ a.0 a.1 (first_alike m n next next' a.2)) tt)
+    grind (arith, chosen, facts_alike, ends_alike, gapped_alike, apart_alike, first_alike m n next next' a.2)
 first_alike m n r r' a = absurd a
 
 -- the rows of alike blocks before alike rows
 titled_alike : (m n : Names) (b b' : LeafBlock) (gap : Bool) (o o' : Option Definitions) (next next' : Rows) → AlikeLeaf m n (Block b) (Block b')
-    → AlikeFirst m n o o' → AlikeRows m n next next'
-    → AlikeRows m n (option_map_or (titled b gap) o (OneOf (row_of_leaf b gap) End next))
+    → AlikeFirst m n o o' → AlikeRows m n next next' → AlikeRows m n (option_map_or (titled b gap) o (OneOf (row_of_leaf b gap) End next))
     (option_map_or (titled b' gap) o' (OneOf (row_of_leaf b' gap) End next'))
 titled_alike m n b b' gap None None next next' (is, items, own, same) f a = ((leaf_bare b b' gap is own, items), tt, a)
 titled_alike m n b b' gap None (Some ds') next next' own f a = absurd f
 titled_alike m n b b' gap (Some ds) None next next' own f a = absurd f
-titled_alike m n b b' gap (Some ds) (Some ds') next next' (is, items, own, same) f a =
-    let leaf : Kind × ℕ × ℕ → Bool → LeafBlock =
-    λ z g. record { kind = z.0; line = z.1; start = z.2; items = []; gap = g; definitions = [] } in
-    let list : Bool → ℕ → Kind × ℕ × ℕ → Row =
-    λ t e z. record { what = ADefinitionList (if t then Apart else WithTitle) e; line = z.1; start = z.2; gap = gap } in
-    let title : Kind × ℕ × ℕ → Bool → Row = λ z g. record { what = ATitle (leaf z g); line = z.1; start = z.2; gap = false } in (
-      (
-        ap (λ t. list t ds.«end» (stands b)) f.1 ∙ ap (λ e. list ds'.apart e (stands b)) f.0 ∙ ap (list ds'.apart ds'.«end») is,
-        refl,
-      ),
-      ((ap (λ z. title z b.gap) is ∙ ap (title (stands b')) own, items), tt, f.2),
-      f.3,
-    )
+titled_alike m n b b' gap (Some ds) (Some ds') next next' (is, items, own, same) f a = (
+  (λ i. record { what = ADefinitionList (if f.1 i then Apart else WithTitle) (f.0 i); line = (is i).1; start = (is i).2; gap = gap }, refl),
+  ((λ i. record { what = ATitle (bare_block (is i) (own i)); line = (is i).1; start = (is i).2; gap = false }, items), tt, f.2),
+  f.3,
+)
 
 leaf_alike : (m n : Names) (before : Before) (b b' : LeafBlock) (next next' : Rows) → AlikeLeaf m n (Block b) (Block b') → AlikeRows m n next next'
     → AlikeRows m n (leaf_row b (gap_before before b) next) (leaf_row b' (gap_before before b') next')
-leaf_alike m n before b b' next next' own a =
-    let begins : begins_paragraph b.items ≡ begins_paragraph b'.items = begins_alike m n b.items b'.items own.1 in
-    let gap : Bool = gap_before before b in
-    let same : gap ≡ gap_before before b' = ap (λ p. before.counted && not (p && is_after_definition before.last)) begins in
-    subst (λ g. AlikeRows m n (leaf_row b gap next) (leaf_row b' g next')) same
-    (titled_alike m n b b' gap _ _ next next' own
-    (chosen (AlikeFirst m n) _ _ (definitions_first next) (definitions_first next') None None begins (first_alike m n next next' a) tt) a)
+leaf_alike m n before b b' next next' own a = grind (arith, begins_alike, titled_alike, chosen, first_alike)
 
 -- what precedes the block after a container, if what precedes its end does not change
 pub closed_alike : (head head' : Head) (kids kids' : Skeleton) → only_head head ≡ only_head head'
     → (let quote : Bool = is_quote (opened head.opener) in before_end quote nothing kids ≡ before_end quote nothing kids')
     → after_container (opened head.opener) (before_end (is_quote (opened head.opener)) nothing kids)
     ≡ after_container (opened head'.opener) (before_end (is_quote (opened head'.opener)) nothing kids')
-closed_alike head head' kids kids' own is =
-    ap (after_container (opened head.opener)) is
-    ∙ ap (λ (c : Container). after_container c (before_end (is_quote c) nothing kids')) (opened_alike head head' own)
+closed_alike head head' kids kids' own is = grind (arith, opened_alike)
 
 -- what precedes the end of alike skeletons
 pub end_alike : (m n : Names) (quoted : Bool) (before : Before) (s t : Skeleton) → Alike m n s t → before_end quoted before s ≡ before_end quoted before t
 unfolding before_end
 end_alike m n quoted before Nil Nil a = refl
 end_alike m n quoted before (Then BlankLine next) (Then BlankLine next') a = end_alike m n quoted (after_blank quoted before) next next' a.1
-end_alike m n quoted before (Then BlankLine next) (Then (Block b') next') a = absurd a.0
-end_alike m n quoted before (Then (Block b) next) (Then BlankLine next') a = absurd a.0
 end_alike m n quoted before (Then (Block b) next) (Then (Block b') next') a =
     end_alike m n quoted (after_block before b) next next' a.1
     ∙ ap (λ z. before_end quoted z next') (after_alike m n before b b' a.0)
+end_alike m n quoted before (Then leaf next) (Then leaf' next') a = absurd a.0
 end_alike m n quoted before (Node head e kids next) (Node head' e' kids' next') a =
     let quote : Bool = is_quote (opened head.opener) in
     end_alike m n quoted (after_container (opened head.opener) (before_end quote nothing kids)) next next' a.3
@@ -293,12 +250,9 @@ rows_alike : (m n : Names) (quoted : Bool) (before : Before) (last : ℕ) (s t :
 unfolding rows_of
 rows_alike m n quoted before last Nil Nil a = tt
 rows_alike m n quoted before last (Then BlankLine next) (Then BlankLine next') a = rows_alike m n quoted (after_blank quoted before) last next next' a.1
-rows_alike m n quoted before last (Then BlankLine next) (Then (Block b') next') a = absurd a.0
-rows_alike m n quoted before last (Then (Block b) next) (Then BlankLine next') a = absurd a.0
 rows_alike m n quoted before last (Then (Block b) next) (Then (Block b') next') a =
-    leaf_alike m n before b b' _ _ a.0
-    (subst (λ z. AlikeRows m n (rows_of quoted (after_block before b) last next) (rows_of quoted z last next')) (after_alike m n before b b' a.0)
-    (rows_alike m n quoted (after_block before b) last next next' a.1))
+    grind (arith, leaf_alike, after_alike, rows_alike m n quoted (after_block before b) last next next' a.1)
+rows_alike m n quoted before last (Then leaf next) (Then leaf' next') a = absurd a.0
 rows_alike m n quoted before last (Node head e kids next) (Node head' e' kids' next') a =
     let c : Container = opened head.opener in
     let now : Before = after_container c (before_end (is_quote c) nothing kids) in
@@ -352,11 +306,8 @@ rows_read m n depth tight (OneOf row inner next) (OneOf row' inner' next') a =
     let loose' : Bool = is_loose inner' in
     let same : loose ≡ loose' = loose_alike m n inner inner' a.1 in
     let one : AlikeNodes m n (row_items depth tight loose row.start row.what) (row_items depth tight loose' row'.start row'.what) =
-    shown_is m depth tight loose row.start row.what
-    ∙ ap (λ (z : Row). shown depth tight loose z.start z.what (read_nodes m (inside row.what))) a.0.0
-    ∙ ap (shown depth tight loose row'.start (bare_what row'.what)) a.0.1
-    ∙ sym (shown_is n depth tight loose row'.start row'.what)
-    ∙ ap (λ z. read_nodes n (row_items depth tight z row'.start row'.what)) same in
+    shown_is m depth tight loose row.start row.what ∙ (λ i. shown depth tight (same i) (a.0.0 i).start (a.0.0 i).what (a.0.1 i))
+    ∙ sym (shown_is n depth tight loose' row'.start row'.what) in
     let t : tight_in tight loose row.what ≡ tight_in tight loose' row'.what =
     ap (λ z. z.3) (facts_alike m n (ItemsOf 0) 0 tight loose row row' a.0) ∙ ap (λ z. tight_in tight z row'.what) same in
     let kids : AlikeNodes m n (items_of (suc depth) (tight_in tight loose row.what) inner) (items_of (suc depth) (tight_in tight loose' row'.what) inner') =
@@ -369,31 +320,21 @@ pub forest_alike : (m n : Names) (quoted : Bool) (before : Before) (depth last :
     → AlikeNodes m n (items_of depth false (rows_of quoted before last s)) (items_of depth false (rows_of quoted before last t))
 forest_alike m n quoted before depth last s t a = rows_read m n depth false _ _ (rows_alike m n quoted before last s t a)
 
--- alike skeletons have the same definitions
-definitions_alike : (m n : Names) (s t : Skeleton) → Alike m n s t → definitions_of s ≡ definitions_of t
-unfolding definitions_of
-definitions_alike m n Nil Nil a = refl
-definitions_alike m n (Then BlankLine next) (Then BlankLine next') a = definitions_alike m n next next' a.1
-definitions_alike m n (Then BlankLine next) (Then (Block b') next') a = absurd a.0
-definitions_alike m n (Then (Block b) next) (Then BlankLine next') a = absurd a.0
-definitions_alike m n (Then (Block b) next) (Then (Block b') next') a =
-    ap (λ z. z ++ definitions_of next) a.0.3 ∙ ap (λ z. b'.definitions ++ z) (definitions_alike m n next next' a.1)
-definitions_alike m n (Node head e kids next) (Node head' e' kids' next') a =
-    ap (λ z. z ++ definitions_of next) (definitions_alike m n kids kids' a.2) ∙ ap (λ z. definitions_of kids' ++ z) (definitions_alike m n next next' a.3)
-definitions_alike m n s t a = absurd a
-
-footnotes_alike : (m n : Names) (s t : Skeleton) → Alike m n s t → footnotes_of s ≡ footnotes_of t
-unfolding footnotes_of
-footnotes_alike m n Nil Nil a = refl
-footnotes_alike m n (Then leaf next) (Then leaf' next') a = footnotes_alike m n next next' a.1
-footnotes_alike m n (Node head e kids next) (Node head' e' kids' next') a =
-    ap (λ z. z ++ (footnotes_of kids ++ footnotes_of next)) (label_alike head head' a.0.0)
-    ∙ ap (λ z. label_of head'.opener ++ (z ++ footnotes_of next)) (footnotes_alike m n kids kids' a.2)
-    ∙ ap (λ z. label_of head'.opener ++ (footnotes_of kids' ++ z)) (footnotes_alike m n next next' a.3)
-footnotes_alike m n s t a = absurd a
+-- alike skeletons have the same definitions and the same labels of footnotes
+same_told : (m n : Names) (s t : Skeleton) → Alike m n s t → (definitions_of s ≡ definitions_of t) × (footnotes_of s ≡ footnotes_of t)
+unfolding definitions_of footnotes_of
+same_told m n Nil Nil a = (refl, refl)
+same_told m n (Then BlankLine next) (Then BlankLine next') a = same_told m n next next' a.1
+same_told m n (Then (Block b) next) (Then (Block b') next') a = (let more = same_told m n next next' a.1 in (λ i. a.0.3 i ++ more.0 i, more.1))
+same_told m n (Then leaf next) (Then leaf' next') a = absurd a.0
+same_told m n (Node head e kids next) (Node head' e' kids' next') a =
+    let label = label_alike head head' a.0.0 in
+    let inner = same_told m n kids kids' a.2 in
+    let more = same_told m n next next' a.3 in
+    (λ i. inner.0 i ++ more.0 i, λ i. label i ++ (inner.1 i ++ more.1 i))
+same_told m n s t a = absurd a
 
 pub told_alike : (m n : Names) (tables : Tables) (s t : Skeleton) → Alike m n s t → with_all_of tables s ≡ with_all_of tables t
 told_alike m n tables s t a =
-    let told : List LinkEntry → List (List ℕ) → Tables =
-    λ xs ys. record { links = with_links tables.links xs; footnotes = with_labels tables.footnotes ys } in
-    ap (λ z. told z (footnotes_of s)) (definitions_alike m n s t a) ∙ ap (told (definitions_of t)) (footnotes_alike m n s t a)
+    let same = same_told m n s t a in
+    λ i. record { links = with_links tables.links (same.0 i); footnotes = with_labels tables.footnotes (same.1 i) }

@@ -1,31 +1,32 @@
 -- The grammar derives at most one forest from a text, read through its indices, and at most one pair of tables.
 use Rattle.std.proofs.Common.{◌≡◌, inl, inr, ℕ, ◌+◌, true, false, List, [], ◌∷◌, length, map, Option, Some, None, IfSome, MatchOption, refl, sym, ap, ◌∙◌}
-use Rattle.std.proofs.Common.{subst, true≢false}
+use Rattle.std.proofs.Common.{subst, true≢false, arith}
 use Rattle.first_pass_grammar.proofs.Common.{Item, Root, Rule, IndentCodeBlock, FencedCodeBlock, MetadataBlock, HtmlBlock, Options, BlockEnd, level_number}
-use Rattle.first_pass_grammar.proofs.Common.{Rest, indent, Place, offset, lines_at, Names, Named, read_nodes, read, Context, at_rest, front}
-use Rattle.first_pass_grammar.proofs.Common.{footnote_columns, is_quote, Kind, Blank, IndentedCode, Metadata, HtmlToEnd, HtmlToBlank, ThematicBreak}
-use Rattle.first_pass_grammar.proofs.Common.{AtxHeading, FencedCode, LinkDefinitions, unindented, first_kind, IsKindBy, heading_attributes_of, Document}
-use Rattle.first_pass_grammar.proofs.Common.{document, around, line_bytes, heading_text_at, heading_block, block_with, metadata_kind, until_end, IsHtml}
-use Rattle.first_pass_grammar.proofs.Common.{LinkEntry, kind_in, lines_beyond, ends_run, Beyond, Ended, FlowsOn, IsRun, none-some, same_Some, leaf_block}
-use Rattle.first_pass_grammar.proofs.Common.{Leaf, BlankLine, Block, Opener, FootnoteMarker, Head, label_of, opened, Skeleton, Nil, Then, Node, OpensBeyond}
-use Rattle.first_pass_grammar.proofs.Common.{OpensRun, Continues, Line, Blanks, AtPlace, Anything, OnlyALeaf, TextOf, OnlyMark, opening_of, Opening}
-use Rattle.first_pass_grammar.proofs.Common.{OpensLeaf, OpensNode, OpensText, OpensExtent, OpensAs, OpensBlockAt, Opens, OpensAt, may_define, Level, level}
-use Rattle.first_pass_grammar.proofs.Common.{level_in, level_after_leaf, level_after, Remaining, Lines, InLine, NextBlock, Begins, Ends, next_block, onward}
-use Rattle.first_pass_grammar.proofs.Common.{after_first, end_before, IsFirst, IsSequence, OpensBy, OpensFootnote, Start, start_at, Tables, no_tables}
-use Rattle.first_pass_grammar.proofs.Common.{node_of, Derives, range_text, range_html, AreRawLines, Ranges, nothing, footnote_head_at, ItemBody}
+use Rattle.first_pass_grammar.proofs.Common.{Rest, indent, Place, offset, lines_at, Names, Named, read_nodes, read, Context, at_rest, front, footnote_columns}
+use Rattle.first_pass_grammar.proofs.Common.{is_quote, Kind, Blank, IndentedCode, Metadata, HtmlToEnd, HtmlToBlank, ThematicBreak, AtxHeading, FencedCode}
+use Rattle.first_pass_grammar.proofs.Common.{LinkDefinitions, unindented, first_kind, IsKindBy, heading_attributes_of, Document, document, around, line_bytes}
+use Rattle.first_pass_grammar.proofs.Common.{heading_text_at, block_with, metadata_kind, until_end, IsHtml, LinkEntry, kind_in, lines_beyond, ends_run}
+use Rattle.first_pass_grammar.proofs.Common.{Beyond, Ended, FlowsOn, IsRun, none-some, same_Some, Leaf, BlankLine, Block, Opener, FootnoteMarker, Head}
+use Rattle.first_pass_grammar.proofs.Common.{label_of, opened, Skeleton, Nil, Then, Node, OpensBeyond, OpensRun, Continues, Line, Blanks, AtPlace, Anything}
+use Rattle.first_pass_grammar.proofs.Common.{OnlyALeaf, TextOf, OnlyMark, opening_of, Opening, OpensLeaf, OpensNode, OpensText, OpensExtent, OpensAs}
+use Rattle.first_pass_grammar.proofs.Common.{OpensBlockAt, Opens, OpensAt, may_define, Level, level, level_in, level_after_leaf, level_after, Remaining}
+use Rattle.first_pass_grammar.proofs.Common.{Lines, InLine, NextBlock, Begins, Ends, next_block, onward, after_first, end_before, IsFirst, IsSequence}
+use Rattle.first_pass_grammar.proofs.Common.{OpensBy, OpensFootnote, Start, start_at, Tables, no_tables, node_of, Derives, range_text, range_html}
+use Rattle.first_pass_grammar.proofs.Common.{AreRawLines, Ranges, nothing, footnote_head_at, ItemBody}
 use Rattle.first_pass_items.specs.declared.item.ItemBody.TheVariants.{Heading as HeadingBody}
 use Rattle.first_pass_grammar.specs.declared.kind.Container.{Container}
 use Rattle.first_pass_grammar.specs.Kinds.{Paragraph}
 use Rattle.first_pass_grammar.specs.Derivation.{IsOnlyDerived}
 use Rattle.first_pass_grammar.proofs.Names.NoIndex.{HasNoIndex, only_read, IsWithoutIndex}
 use Rattle.first_pass_grammar.proofs.Uniqueness.Alike.{with_names, AlikeNodes, HoldsNoIndex, AlikeLeaf, AlikeOpening, Alike, label_node, opened_alike}
-use Rattle.first_pass_grammar.proofs.Uniqueness.Alike.{AreFree, label_named, text_free, html_free, raw_alike, block_alike, fence_alike, heading_alike}
+use Rattle.first_pass_grammar.proofs.Uniqueness.Alike.{label_named, raw_alike, block_alike, fence_alike, heading_alike}
 use Rattle.first_pass_grammar.proofs.Uniqueness.LinesAlike.{one_heading}
 use Rattle.first_pass_grammar.proofs.Uniqueness.TablesAlike.{one_text}
 use Rattle.first_pass_grammar.proofs.Sequences.Goings.{same_left}
 use Rattle.first_pass_grammar.proofs.Uniqueness.RowsAlike.{closed_alike, end_alike, forest_alike, told_alike, after_alike}
 use Rattle.first_pass_grammar.proofs.Sequences.PlacesKept.{Anywhere, anywhere_kept, each_anywhere}
 use Rattle.first_pass_grammar.proofs.Each.EachOpening.{HoldsOfContainers, OpensContainer, container_opens, first_from}
+use Rattle.first_pass_grammar.proofs.Names.NamedItems.{IsFree, text_is_free, html_is_free}
 
 -- a place has one kind
 one_kind : (r : Rest) (first : Option Kind) (k k' : Kind) → IsKindBy r first k → IsKindBy r first k' → k ≡ k'
@@ -35,20 +36,16 @@ one_kind r None k k' (inl (n, tag, e)) (inr (other, f)) = absurd (other n tag)
 one_kind r None k k' (inr (other, e)) (inl (n, tag, f)) = absurd (other n tag)
 one_kind r None k k' (inr (other, e)) (inr (other', f)) = e ∙ sym f
 
--- two openings that equal openings that are alike are alike
-alike_by : (m n : Names) (o o' x y : Opening) → o ≡ x → o' ≡ y → AlikeOpening m n x y → AlikeOpening m n o o'
-alike_by m n o o' x y e f a = subst (λ z. AlikeOpening m n z o') (sym e) (subst (λ z. AlikeOpening m n x z) (sym f) a)
-
 -- the text at a place opens alike
 one_text_opening : (d : Document) (n : Names) (path : List Container) (p : Place) (lines : List Place) (marker : Option Item) (o o' : Opening)
     → IfSome marker HasNoIndex → OpensText d path p lines marker o → OpensText (with_names d n) path p lines marker o' → AlikeOpening d.names n o o'
 unfolding OpensText
 one_text_opening d n path p lines marker o o' free (t, is, e) (u, is', f) =
     let same = one_text d n path (unindented p) marker lines t u free is is' in
-    alike_by d.names n o o' _ _ e f ((refl, same.0, refl, refl), refl, tt, same.1)
+    rw (e, f) ((refl, same.0, refl, refl), refl, tt, same.1)
 
 -- the items of a block with raw lines read alike if its first item does
-module _ (range : Ranges) (free : AreFree range) (d : Document) (n : Names) (places : List Place) (chain chain' : List Item)
+module _ (range : Ranges) (free : IsFree range) (d : Document) (n : Names) (places : List Place) (chain chain' : List Item)
     (are : AreRawLines range d [] places chain) (are' : AreRawLines range (with_names d n) [] places chain') where
   raw_block : (start stop : ℕ) (body body' : ItemBody) (xs ys : List (ℕ × Item)) → read d.names (node_of start stop body) ≡ read n (node_of start stop body')
       → xs ≡ block_with start stop body chain → ys ≡ block_with start stop body' chain' → AlikeNodes d.names n xs ys
@@ -60,7 +57,7 @@ module _ (range : Ranges) (free : AreFree range) (d : Document) (n : Names) (pla
 one_html : (d : Document) (n : Names) (start columns : ℕ) (places : List Place) («end» : ℕ) (xs ys : List (ℕ × Item))
     → IsHtml d start columns places «end» xs → IsHtml (with_names d n) start columns places «end» ys → AlikeNodes d.names n xs ys
 one_html d n start columns places end xs ys h k =
-    raw_block range_html html_free d n _ h.chain k.chain h.lines k.lines start end HtmlBlock HtmlBlock xs ys refl h.items_are k.items_are
+    raw_block range_html html_is_free d n _ h.chain k.chain h.lines k.lines start end HtmlBlock HtmlBlock xs ys refl h.items_are k.items_are
 
 -- one run begins at a place, with one thing after it
 ends_not : (around : Context) (a b : List Place) → ends_run around a ≡ true → a ≡ b → ends_run around b ≡ false → ⊥
@@ -74,83 +71,74 @@ one_run around p lines [] (y ∷ ys) b c (h, e) (k, f) = absurd (none-some y (sy
 one_run around p lines (x ∷ xs) [] b c (h, e) (k, f) = absurd (none-some x (sym k ∙ h))
 one_run around p lines (x ∷ xs) (y ∷ ys) b c (h, inl (stops, m, e)) (k, inl (stops', m', f)) =
     let s : x ≡ y = same_Some x y (sym h ∙ k) in
-    (ap (λ z. z ∷ xs) s ∙ ap (λ z. y ∷ z) (m ∙ sym m'), e ∙ ap (λ (z : LinkEntry). Ended p (lines_beyond z.«end» lines)) s ∙ sym f)
-one_run around p lines (x ∷ xs) (y ∷ ys) b c (h, inl (stops, m, e)) (k, inr (line, left, is, on, more)) =
-    let s : x ≡ y = same_Some x y (sym h ∙ k) in absurd (ends_not around _ _ stops (ap (λ (z : LinkEntry). lines_beyond z.«end» lines) s ∙ is) on)
-one_run around p lines (x ∷ xs) (y ∷ ys) b c (h, inr (line, left, is, on, more)) (k, inl (stops, m, e)) =
-    let s : y ≡ x = same_Some y x (sym k ∙ h) in absurd (ends_not around _ _ stops (ap (λ (z : LinkEntry). lines_beyond z.«end» lines) s ∙ is) on)
+    (λ i. s i ∷ (m ∙ sym m') i, e ∙ ap (λ (z : LinkEntry). Ended p (lines_beyond z.«end» lines)) s ∙ sym f)
+one_run around p lines (x ∷ xs) (y ∷ ys) b c (h, inl (stops, m, e)) (k, inr (line, left, is, on, more)) = grind (arith, same_Some, ends_not)
+one_run around p lines (x ∷ xs) (y ∷ ys) b c (h, inr (line, left, is, on, more)) (k, inl (stops, m, e)) = grind (arith, same_Some, ends_not)
 one_run around p lines (x ∷ xs) (y ∷ ys) b c (h, inr (line, left, is, on, more)) (k, inr (line', left', is', on', more')) =
     let s : x ≡ y = same_Some x y (sym h ∙ k) in
-    let both : line' ∷ left' ≡ line ∷ left = sym is' ∙ ap (λ (z : LinkEntry). lines_beyond z.«end» lines) (sym s) ∙ is in
-    let first : line' ≡ line = cc in
-    let later : left' ≡ left = cc in
-    let r = one_run around (unindented (at_rest line (front around.path line.rest))) left xs ys b c more
-    (subst (λ (z : Place). IsRun around (unindented (at_rest z (front around.path z.rest))) left ys c) first
-    (subst (λ z. IsRun around (unindented (at_rest line' (front around.path line'.rest))) z ys c) later more')) in
-    (ap (λ z. z ∷ xs) s ∙ ap (λ z. y ∷ z) r.0, r.1)
+    let both : line ∷ left ≡ line' ∷ left' = sym is ∙ ap (λ (z : LinkEntry). lines_beyond z.«end» lines) s ∙ is' in
+    let first : line ≡ line' = cc in
+    let later : left ≡ left' = cc in
+    let r = one_run around (unindented (at_rest line (front around.path line.rest))) left xs ys b c more (rw (first, later) more') in
+    (λ i. s i ∷ r.0 i, r.1)
 
 -- what follows a run reads alike
 one_beyond : (d : Document) (n : Names) (path : List Container) (xs : List LinkEntry) (b : Beyond) (o o' : Opening)
     → OpensBeyond d path xs b o → OpensBeyond (with_names d n) path xs b o' → AlikeOpening d.names n o o'
-one_beyond d n path xs (Ended p left) o o' e f = alike_by d.names n o o' _ _ e f ((refl, refl, refl, refl), refl, tt, refl)
+one_beyond d n path xs (Ended p left) o o' e f = rw (e, f) ((refl, refl, refl, refl), refl, tt, refl)
 one_beyond d n path xs (FlowsOn p lines) o o' (t, is, e) (u, is', f) =
     let same = one_text d n path p None lines t u tt is is' in
-    alike_by d.names n o o' _ _ e f ((refl, same.0, refl, refl), refl, tt, same.1)
+    rw (e, f) ((refl, same.0, refl, refl), refl, tt, same.1)
 
 one_run_opening : (d : Document) (n : Names) (path : List Container) (p : Place) (lines : List Place) (o o' : Opening)
     → OpensRun d path p lines o → OpensRun (with_names d n) path p lines o' → AlikeOpening d.names n o o'
 unfolding OpensRun
 one_run_opening d n path p lines o o' (xs, b, run, e) (ys, c, run', f) =
     let s = one_run (around d path) (unindented p) lines xs ys b c run run' in
-    one_beyond d n path xs b o o' e
-    (subst (λ z. OpensBeyond (with_names d n) path z b o') (sym s.0) (subst (λ z. OpensBeyond (with_names d n) path ys z o') (sym s.1) f))
+    one_beyond d n path xs b o o' e (rw (s.0, s.1) f)
 
 -- the block of one kind at a place reads alike
 opens_once : (d : Document) (n : Names) (path : List Container) (p : Place) (lines : List Place) (k : Kind) (o o' : Opening)
     → OpensAs d path p lines k o → OpensAs (with_names d n) path p lines k o' → AlikeOpening d.names n o o'
 unfolding OpensAs
-opens_once d n path p lines Blank o o' e f = alike_by d.names n o o' _ _ e f (tt, refl, tt, refl)
+opens_once d n path p lines Blank o o' e f = rw (e, f) (tt, refl, tt, refl)
 opens_once d n path p lines IndentedCode o o' (xs, h, e) (ys, k, f) =
-    let same = raw_block range_text text_free d n _ h.chain k.chain h.lines k.lines _ _ IndentCodeBlock IndentCodeBlock xs ys refl h.items_are k.items_are in
-    alike_by d.names n o o' _ _ e f ((refl, same, refl, refl), refl, tt, refl)
+    let same = raw_block range_text text_is_free d n _ h.chain k.chain h.lines k.lines _ _ IndentCodeBlock IndentCodeBlock xs ys refl h.items_are k.items_are in
+    rw (e, f) ((refl, same, refl, refl), refl, tt, refl)
 opens_once d n path p lines (Metadata byte) o o' (xs, h, e) (ys, k, f) =
     let body : ItemBody = MetadataBlock (metadata_kind byte) in
-    let same = raw_block range_text text_free d n _ h.chain k.chain h.lines k.lines _ _ body body xs ys refl h.items_are k.items_are in
-    alike_by d.names n o o' _ _ e f ((refl, same, refl, refl), refl, tt, refl)
+    let same = raw_block range_text text_is_free d n _ h.chain k.chain h.lines k.lines _ _ body body xs ys refl h.items_are k.items_are in
+    rw (e, f) ((refl, same, refl, refl), refl, tt, refl)
 opens_once d n path p lines HtmlToEnd o o' (until, is, (xs, h, e)) (until', is', f) =
     let found : Some until' ≡ Some until = sym is' ∙ is in
     let same : until' ≡ until = cc in
     let (ys, k, g) = subst (λ (t : BlockEnd).
     let y = until_end (length d.text) path t (unindented p) lines in
     OpensExtent HtmlToEnd p y (IsHtml (with_names d n) (offset (unindented p)) (indent p.rest) y.places y.«end») o') same f in
-    alike_by d.names n o o' _ _ e g ((refl, one_html d n _ _ _ _ xs ys h k, refl, refl), refl, tt, refl)
-opens_once d n path p lines HtmlToBlank o o' (xs, h, e) (ys, k, f) =
-    alike_by d.names n o o' _ _ e f ((refl, one_html d n _ _ _ _ xs ys h k, refl, refl), refl, tt, refl)
+    rw (e, g) ((refl, one_html d n _ _ _ _ xs ys h k, refl, refl), refl, tt, refl)
+opens_once d n path p lines HtmlToBlank o o' (xs, h, e) (ys, k, f) = rw (e, f) ((refl, one_html d n _ _ _ _ xs ys h k, refl, refl), refl, tt, refl)
 opens_once d n path p lines (ThematicBreak size) o o' e f =
     let start : ℕ = offset (unindented p) in
-    alike_by d.names n o o' _ _ e f ((refl, block_alike d.names n start (start + size) Rule Rule [] [] refl refl, refl, refl), refl, tt, refl)
+    rw (e, f) ((refl, block_alike d.names n start (start + size) Rule Rule [] [] refl refl, refl, refl), refl, tt, refl)
 opens_once d n path p lines (AtxHeading level) o o' (i, c, e, h, f) (i', c', e', h', f') =
     let text : ℕ = heading_text_at d.text (offset (unindented p)) (level_number level) in
     let s = one_heading d n text i i' c c' e e' h h' in
     let start : ℕ = offset (unindented p) in
-    let same : o' ≡ OpensLeaf (leaf_block (AtxHeading level) p (heading_block start e level i' c') false) Line lines =
-    f' ∙ ap (λ z. OpensLeaf (leaf_block (AtxHeading level) p (heading_block start z level i' c') false) Line lines) (sym s.1) in
     let own = heading_alike d.names n start e level i i' (heading_attributes_of d.options (line_bytes d text)) h.named h'.named in
     let items = block_alike d.names n start e (HeadingBody level i) (HeadingBody level i') c c' own s.0 in
-    alike_by d.names n o o' _ _ f same ((refl, items, refl, refl), refl, tt, refl)
+    rw (f, f', ← s.1) ((refl, items, refl, refl), refl, tt, refl)
 opens_once d n path p lines (FencedCode count byte) o o' (xs, h, e) (ys, k, f) =
     let own = fence_alike d.names n _ _ h.info k.info _ (h.names.named, h.names.at, h.names.text) (k.names.named, k.names.at, k.names.text) in
-    let same = raw_block range_text text_free d n _ h.chain k.chain h.lines k.lines _ _ (FencedCodeBlock h.info) (FencedCodeBlock k.info) xs ys own
+    let same = raw_block range_text text_is_free d n _ h.chain k.chain h.lines k.lines _ _ (FencedCodeBlock h.info) (FencedCodeBlock k.info) xs ys own
     h.items_are k.items_are in
-    alike_by d.names n o o' _ _ e f ((refl, same, refl, refl), refl, tt, refl)
+    rw (e, f) ((refl, same, refl, refl), refl, tt, refl)
 opens_once d n path p lines LinkDefinitions o o' e f = one_run_opening d n path p lines o o' e f
 opens_once d n path p lines Paragraph o o' e f = one_text_opening d n path p lines None o o' tt e f
 
 opens_block : (d : Document) (n : Names) (path : List Container) (p : Place) (lines : List Place) (o o' : Opening)
     → OpensBlockAt d path p lines o → OpensBlockAt (with_names d n) path p lines o' → AlikeOpening d.names n o o'
 opens_block d n path p lines o o' (k, is, e) (k', is', f) =
-    opens_once d n path p lines (kind_in (around d path) p k) o o' e
-    (subst (λ z. OpensAs (with_names d n) path p lines (kind_in (around d path) p z) o') (one_kind p.rest (first_kind d.options p.rest) k' k is' is) f)
+    opens_once d n path p lines (kind_in (around d path) p k) o o' e (rw (one_kind p.rest (first_kind d.options p.rest) k k' is is') f)
 
 -- a container without a label that opens reads alike; the marker where its blocks continue, if there is one, has no
 -- index
@@ -172,7 +160,7 @@ opens_by : (d : Document) (n : Names) (path : List Container) (p : Place) (lines
     → ((s : Start) → q ≡ Some s → OpensContainer Anywhere IsWithoutIndex IsUnlabelled (opening_of d path p lines s)) → OpensBy d path p lines q o
     → OpensBy (with_names d n) path p lines q o' → AlikeOpening d.names n o o'
 unfolding OpensBy
-opens_by d n path p lines (Some s) o o' free e f = alike_by d.names n o o' _ _ e f (node_alike d.names n (opening_of d path p lines s) (free s refl))
+opens_by d n path p lines (Some s) o o' free e f = rw (e, f) (node_alike d.names n (opening_of d path p lines s) (free s refl))
 opens_by d n path p lines None o o' free e f = opens_block d n path p lines o o' e f
 
 -- a footnote definition, or another block
@@ -185,7 +173,7 @@ by_head d n l p lines None o o' e f =
     opens_by d n l.path p lines (start_at d.options (may_define d l) p) o o'
     (λ s is. container_opens d Anywhere IsWithoutIndex IsUnlabelled containers_free l.path p lines (may_define d l) s tt (each_anywhere lines) is) e f
 by_head d n l p lines (Some (size, label)) o o' (i, named, e) (j, named', f) =
-    alike_by d.names n o o' _ _ e f ((refl, label_named d.names n (footnote_columns d.options) i j _ label named named'), refl, (tt, tt), refl)
+    rw (e, f) ((refl, label_named d.names n (footnote_columns d.options) i j _ label named named'), refl, (tt, tt), refl)
 
 -- one thing opens at a place, and it reads alike
 pub one_opening : (d : Document) (n : Names) (l : Level) (p : Place) (lines : List Place) (o o' : Opening)
@@ -200,7 +188,7 @@ opens_at d n l (AtPlace q OnlyALeaf) p lines o o' h e f = opens_block d n l.path
 opens_at d n l (Blanks x) p lines o o' h e f = one_opening d n l p lines o o' e f
 opens_at d n l (AtPlace q (TextOf marker)) p lines o o' h e f = one_text_opening d n l.path p lines (Some marker) o o' h.1 e f
 opens_at d n l (AtPlace q (OnlyMark marker blanks)) p lines o o' h e f =
-    alike_by d.names n o o' _ _ e f (
+    rw (e, f) (
       (refl, ap (λ (z : List (Item × Option Named)). map (λ (r : Item × Option Named). (0, r)) z) (only_read d.names n (marker ∷ []) (h.1, tt)), refl, refl),
       refl,
       tt,
@@ -216,8 +204,7 @@ first_once : (d : Document) (n : Names) (l : Level) (from : Continues) (lines : 
     → IsFirst d l from lines o → IsFirst (with_names d n) l from lines o' → AlikeOpening d.names n o o'
 first_once d n l from lines o o' h f g =
     let w = begins_once f.place g.place f.following g.following (next_block d.options l from lines) f.begins g.begins in
-    opens_at d n l from g.place g.following o o' h
-    (subst (λ z. OpensAt d l from g.place z o) w.1 (subst (λ z. OpensAt d l from z f.following o) w.0 f.opens)) g.opens
+    opens_at d n l from g.place g.following o o' h (rw (← w.0, ← w.1) f.opens) g.opens
 
 first_ends : (d : Document) (l : Level) (from : Continues) (lines : List Place) (left : Remaining) (o : Opening) → next_block d.options l from lines ≡ Ends left
     → IsFirst d l from lines o → ⊥
@@ -229,8 +216,7 @@ pub ends_at_once : (d : Document) (s : Skeleton) (l : Level) (from : Continues) 
 unfolding IsSequence
 ends_at_once d Nil l from lines stop left e f = (refl, same_left left stop (sym f ∙ e))
 ends_at_once d (Then leaf next) l from lines stop left e (there, mid, first, seq) = absurd (first_ends d l from lines stop (OpensLeaf leaf there mid) e first)
-ends_at_once d (Node head e' kids next) l from lines stop left e (inside, following, mid, first, inner, is, seq) =
-    absurd (first_ends d l from lines stop (OpensNode head inside following) e first)
+ends_at_once d (Node head e' kids next) l from lines stop left e (inside, following, mid, first, inner, is, seq) = grind (arith, first_ends)
 
 onward_free : (left : Remaining) → HoldsNoIndex (onward left).0
 onward_free (Lines lines) = tt
@@ -238,9 +224,8 @@ onward_free (InLine p lines) = (tt, tt)
 
 leaf_after : (m n : Names) (l : Level) (leaf leaf' : Leaf) → AlikeLeaf m n leaf leaf' → level_after_leaf l leaf ≡ level_after_leaf l leaf'
 leaf_after m n l BlankLine BlankLine a = refl
-leaf_after m n l BlankLine (Block b') a = absurd a
-leaf_after m n l (Block b) BlankLine a = absurd a
 leaf_after m n l (Block b) (Block b') a = ap (level l.path) (after_alike m n l.before b b' a)
+leaf_after m n l leaf leaf' a = absurd a
 
 -- two sequences from the same place on are alike, and leave the same lines
 pub one_sequence : (d : Document) (n : Names) (s t : Skeleton) (l : Level) (from : Continues) (lines : List Place) (a b : Remaining) → HoldsNoIndex from
@@ -248,15 +233,11 @@ pub one_sequence : (d : Document) (n : Names) (s t : Skeleton) (l : Level) (from
 unfolding IsSequence
 one_sequence d n Nil t l from lines a b free e f =
     let r = ends_at_once (with_names d n) t l from lines a b e f in (subst (Alike d.names n Nil) (sym r.0) tt, sym r.1)
-one_sequence d n s Nil l from lines a b free e f =
-    let r = ends_at_once d s l from lines b a f e in (subst (λ z. Alike d.names n z Nil) (sym r.0) tt, r.1)
+one_sequence d n s Nil l from lines a b free e f = grind (arith, ends_at_once)
 one_sequence d n (Then leaf next) (Then leaf' next') l from lines a b free (there, mid, first, seq) (there', mid', first', seq') =
     let o = first_once d n l from lines (OpensLeaf leaf there mid) (OpensLeaf leaf' there' mid') free first first' in
-    let now : Level = level_after_leaf l leaf in
-    let r = one_sequence d n next next' now (after_first from there) mid a b (first_from Anywhere IsWithoutIndex from there o.2) seq
-    (subst (λ z. IsSequence (with_names d n) next' now (after_first from there) z b) (sym o.3)
-    (subst (λ z. IsSequence (with_names d n) next' now (after_first from z) mid' b) (sym o.1)
-    (subst (λ z. IsSequence (with_names d n) next' z (after_first from there') mid' b) (sym (leaf_after d.names n l leaf leaf' o.0)) seq'))) in
+    let r = one_sequence d n next next' (level_after_leaf l leaf) (after_first from there) mid a b (first_from Anywhere IsWithoutIndex from there o.2) seq
+    (rw (leaf_after d.names n l leaf leaf' o.0, o.1, o.3) seq') in
     ((o.0, r.0), r.1)
 one_sequence d n (Then leaf next) (Node head x kids next') l from lines a b free (there, mid, first, seq) (inside, following, mid', first', inner, is, seq') =
     absurd (first_once d n l from lines (OpensLeaf leaf there mid) (OpensNode head inside following) free first first')
@@ -266,17 +247,12 @@ one_sequence d n (Node head x kids next) (Node head' x' kids' next') l from line
     (inside', following', mid', first', inner', is', seq') =
     let o = first_once d n l from lines (OpensNode head inside following) (OpensNode head' inside' following') free first first' in
     let h = one_sequence d n kids kids' (level_in (opened head.opener) l) inside following mid mid' o.2 inner
-    (subst (λ (z : Container). IsSequence (with_names d n) kids' (level_in z l) inside following mid') (sym (opened_alike head head' o.0.0))
-    (subst (λ z. IsSequence (with_names d n) kids' (level_in (opened head'.opener) l) z following mid') (sym o.1)
-    (subst (λ z. IsSequence (with_names d n) kids' (level_in (opened head'.opener) l) inside' z mid') (sym o.3) inner'))) in
+    (rw (opened_alike head head' o.0.0, o.1, o.3) inner') in
     let m : mid ≡ mid' = h.1 in
-    let there : Remaining → Continues = λ z. after_first from (onward z).0 in
-    let now : Level = level_after l head kids in
-    let same : level_after l head' kids' ≡ now =
-    sym (ap (level l.path) (closed_alike head head' kids kids' o.0.0 (end_alike d.names n (is_quote (opened head.opener)) nothing kids kids' h.0))) in
-    let r = one_sequence d n next next' now (there mid) (onward mid).1 a b (first_from Anywhere IsWithoutIndex from (onward mid).0 (onward_free mid)) seq
-    (subst (λ (z : Remaining). IsSequence (with_names d n) next' now (there z) (onward z).1 b) (sym m)
-    (subst (λ z. IsSequence (with_names d n) next' z (there mid') (onward mid').1 b) same seq')) in
+    let same : level_after l head kids ≡ level_after l head' kids' =
+    ap (level l.path) (closed_alike head head' kids kids' o.0.0 (end_alike d.names n (is_quote (opened head.opener)) nothing kids kids' h.0)) in
+    let r = one_sequence d n next next' (level_after l head kids) (after_first from (onward mid).0) (onward mid).1 a b
+    (first_from Anywhere IsWithoutIndex from (onward mid).0 (onward_free mid)) seq (rw (same, m) seq') in
     let e : x ≡ x' = is ∙ ap (λ z. end_before (length d.text) l.path z mid) o.1 ∙ ap (end_before (length d.text) l.path inside') m ∙ sym is' in
     ((o.0, e, h.0, r.0), r.1)
 

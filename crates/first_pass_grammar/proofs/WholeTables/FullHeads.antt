@@ -1,10 +1,8 @@
 -- No cell is inserted into the header row of a table.
-use Rattle.std.proofs.Common.{◌≡◌, ℕ, ◌==◌, ◌&&◌, not, Bool, true, List, length, Option, Some, None, sym, ap, ◌∙◌, arith, if◌then◌else◌, option_and_then}
-use Rattle.std.proofs.Common.{eqb-true}
-use Rattle.first_pass_grammar.proofs.Common.{none-some, cond_some, has, tables, Alignment, Item, Place, offset, head_columns, no_braces, Spot, spot}
-use Rattle.first_pass_grammar.proofs.Common.{Document, around, if_as_many, table_at, ends_in_backslash, headed_table, AreCells, inserted}
+use Rattle.std.proofs.Common.{◌≡◌, ℕ, ◌&&◌, Bool, true, List, length, Option, Some, None, arith, if◌then◌else◌, option_and_then}
+use Rattle.first_pass_grammar.proofs.Common.{none-some, cond_some, Alignment, Item, Place, offset, no_braces, Spot, spot}
+use Rattle.first_pass_grammar.proofs.Common.{Document, around, if_as_many, table_at, headed_table, AreCells, inserted}
 use Rattle.first_pass_grammar.specs.declared.kind.Container.{Container}
-use Rattle.first_pass_grammar.specs.TableHeads.{alignments_after}
 use Rattle.first_pass_grammar.proofs.Sequences.PlacesKept.{IsAt}
 use Rattle.first_pass_grammar.proofs.WholeTables.WholeBlocks.{HeadsAreFull}
 use Rattle.first_pass_grammar.proofs.WholeTables.HeadCells.{head_has_cells}
@@ -13,8 +11,7 @@ use Rattle.first_pass_grammar.proofs.WholeTables.HeadCells.{head_has_cells}
 table_columns : (columns : ℕ) (o : Option (List Alignment)) (alignments : List Alignment) → option_and_then (if_as_many columns) o ≡ Some alignments
     → length alignments ≡ columns
 table_columns columns None alignments e = absurd (none-some alignments e)
-table_columns columns (Some xs) alignments e =
-    let (same, is) = cond_some (length xs == columns) xs alignments e in ap length (sym is) ∙ eqb-true (length xs) columns same
+table_columns columns (Some xs) alignments e = grind (arith, cond_some)
 
 headed_by : (t s : Bool) (o : Option (List Alignment)) (alignments : List Alignment) → (if t && s then o else None) ≡ Some alignments
     → (t ≡ true) × (o ≡ Some alignments)
@@ -24,13 +21,7 @@ headed_by t s o alignments e = grind arith
 pub head_is_full : (d : Document) (path : List Container) (p : Place) (alignments : List Alignment) (cells : List (List (ℕ × Item))) (to : Spot) → IsAt d.text p
     → headed_table (around d path) p.rest.left ≡ Some alignments → AreCells d (spot (offset p) no_braces) cells to → inserted (length alignments) cells ≡ 0
 unfolding headed_table table_at
-head_is_full d path p alignments cells to i e are =
-    let headed = headed_by (has d.options tables) (not (ends_in_backslash p.rest.left)) _ alignments e in
-    let columns = table_columns (head_columns p.rest.left) (alignments_after path p.rest.left) alignments headed.1 in
-    let least = head_has_cells d (spot (offset p) no_braces) cells to headed.0 are in
-    let here = ap (λ (bs : List ℕ). head_columns bs) i in
-    omega arith
+head_is_full d path p alignments cells to i e are = grind (arith, headed_by, table_columns, head_has_cells)
 
 pub heads_are_full : (d : Document) → HeadsAreFull d
-heads_are_full d path p alignments lines t i e h =
-    (let none = head_is_full d path p alignments h.cells (spot h.head_end h.after) i e h.are_cells in omega arith)
+heads_are_full d path p alignments lines t i e h = grind (arith, head_is_full)

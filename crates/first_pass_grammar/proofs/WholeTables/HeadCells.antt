@@ -5,11 +5,11 @@ use Rattle.std.proofs.Common.{slice_index, Option, Some, None, is_some, refl, sy
 use Rattle.std.proofs.Common.{take_while, eqb-true, true≢false}
 use Rattle.first_pass_grammar.proofs.Common.{option_map_or, prefix_len, cases_lt, nat_tests, at_drop_all, at_drop_more, get_or_past, none-some, same_Some}
 use Rattle.first_pass_grammar.proofs.Common.{line_feed, carriage_return, backslash, pipe, has, tables, Item, is_content, is_white, begins, eol_len}
-use Rattle.first_pass_grammar.proofs.Common.{at_line_end, is_blank_line, head_columns, MathBraces, Spot, spot, IsCell, Document, cell_content, cell_start}
-use Rattle.first_pass_grammar.proofs.Common.{cell_text, AreCells}
+use Rattle.first_pass_grammar.proofs.Common.{is_blank_line, head_columns, MathBraces, Spot, spot, IsCell, Document, cell_content, cell_start, cell_text}
+use Rattle.first_pass_grammar.proofs.Common.{AreCells}
 use Rattle.std.proofs.lemmas.List.Sums.{take_while-cons}
 use Rattle.first_pass_grammar.proofs.Order.RowEnds.{pipe_inside}
-use Rattle.first_pass_table_scan.specs.TableHead.{is_pipe, pipes_after, pipes_of, header_columns, last_pipe_after}
+use Rattle.first_pass_table_scan.specs.TableHead.{is_pipe, pipes_after, header_columns, last_pipe_after}
 use Rattle.first_pass_tokens.specs.MarkupBytes.{PipesAreEscaped}
 use Rattle.first_pass_tokens.proofs.CellPipes.{cell_pipes}
 use Rattle.first_pass_tokens.proofs.LineLemmas.{pieces_reach}
@@ -39,17 +39,11 @@ step_least u w m = grind arith
 step_other : (t w : Bool) (m n : ℕ) → m ≤ suc n → step t false w m ≤ suc n
 step_other t w m n h = grind arith
 
-step_white : (t : Bool) (m : ℕ) → step t false true m ≤ m
-step_white t m = grind arith
-
-step_escaped : (t p x w : Bool) (m : ℕ) → step t (p && not x) w m ≤ step t (p && true) w m
-step_escaped t p x w m = grind arith
-
 -- no fewer if no backslash comes before
 cells_unescaped : (b : ℕ) (bs : List ℕ) → cells_of b bs ≤ cells_of 0 bs
 unfolding cells_of
 cells_unescaped b [] = omega arith
-cells_unescaped b (c ∷ cs) = step_escaped (is_content c) (is_pipe c) (b == backslash) (is_white c) (cells_of c cs)
+cells_unescaped b (c ∷ cs) = grind arith
 
 -- white space at the front adds none
 white_other : (c : ℕ) → is_white c ≡ true → is_pipe c ≡ false
@@ -58,20 +52,8 @@ white_other c w = grind (arith, nat_tests, w)
 cells_white_by : (t : Bool) (b c : ℕ) (cs : List ℕ) → is_white c ≡ t → cells_of c cs ≤ cells_of 0 (drop (prefix_len is_white cs) cs)
     → cells_of b (c ∷ cs) ≤ cells_of 0 (drop (prefix_len is_white (c ∷ cs)) (c ∷ cs))
 unfolding cells_of
-cells_white_by true b c cs h more =
-    let other = white_other c h in
-    let none : (is_pipe c && not (b == backslash)) ≡ false = ap (λ (p : Bool). p && not (b == backslash)) other in
-    let here = ap (λ (u : Bool). step (is_content c) u (is_white c) (cells_of c cs)) none ∙ ap (λ (w : Bool). step (is_content c) false w (cells_of c cs)) h in
-    let low = step_white (is_content c) (cells_of c cs) in
-    let n : prefix_len is_white (c ∷ cs) ≡ prefix_len is_white cs + 1 = rw h (omega arith) in
-    let rest = drop_next (prefix_len is_white cs) c cs in
-    let following = ap (λ (k : ℕ). cells_of 0 (drop k (c ∷ cs))) n ∙ ap (λ (xs : List ℕ). cells_of 0 xs) rest in
-    omega arith
-cells_white_by false b c cs h more =
-    let n : prefix_len is_white (c ∷ cs) ≡ 0 = rw h in
-    let following = ap (λ (k : ℕ). cells_of 0 (drop k (c ∷ cs))) n in
-    let low = cells_unescaped b (c ∷ cs) in
-    omega arith
+cells_white_by true b c cs h more = rw (h, white_other c h) (grind arith)
+cells_white_by false b c cs h more = rw h (grind arith)
 
 cells_white : (b : ℕ) (bs : List ℕ) → cells_of b bs ≤ cells_of 0 (drop (prefix_len is_white bs) bs)
 unfolding cells_of
@@ -79,33 +61,26 @@ cells_white b [] = omega arith
 cells_white b (c ∷ cs) = cells_white_by (is_white c) b c cs refl (cells_white c cs)
 
 -- there are none if the line ends
-line_end : (c : ℕ) (cs : List ℕ) (n : ℕ) → eol_len (c ∷ cs) ≡ Some n → is_content c ≡ false
-line_end c cs n e = grind (arith, nat_tests, e)
+no_content : (c : ℕ) (cs : List ℕ) (n : ℕ) → eol_len (c ∷ cs) ≡ Some n → is_content c ≡ false
+no_content c cs n e = grind (arith, nat_tests, e)
 
 cells_end : (b : ℕ) (bs : List ℕ) (n : ℕ) → eol_len bs ≡ Some n → cells_of b bs ≡ 0
 unfolding cells_of
 cells_end b [] n e = refl
-cells_end b (c ∷ cs) n e =
-    let ends = line_end c cs n e in
-    ap (λ (t : Bool). step t (is_pipe c && not (b == backslash)) (is_white c) (cells_of c cs)) ends
+cells_end b (c ∷ cs) n e = rw (no_content c cs n e)
 
 -- after a pipe, or where there is none
 first_by : (text : List ℕ) (at : ℕ) (t : Bool) → (slice_index text at == pipe) ≡ t
     → cells_of 0 (drop at text) ≤ (if t then 1 else 0) + cells_of 0 (drop (cell_start text at) text)
 unfolding cells_of
 first_by text at true here =
-    let begins : cell_start text at ≡ at + 1 = ap (λ (t : Bool). if t then at + 1 else at) here in
-    let following = ap (λ (k : ℕ). cells_of 0 (drop k text)) begins in
     let c = slice_index text at in
     let cs = drop (at + 1) text in
     let read = at_drop_more (cells_of 0) text at 0 (pipe_inside text at here) in
     let most = step_most (is_content c) (is_pipe c && not (0 == backslash)) (is_white c) (cells_of c cs) in
     let low = cells_unescaped c cs in
-    omega arith
-first_by text at false here =
-    let begins : cell_start text at ≡ at = ap (λ (t : Bool). if t then at + 1 else at) here in
-    let following = ap (λ (k : ℕ). cells_of 0 (drop k text)) begins in
-    omega arith
+    rw here (omega arith)
+first_by text at false here = rw here (omega arith)
 
 -- up to the content of the cell there
 to_text : (text : List ℕ) (at : ℕ) → cells_of 0 (drop at text) ≤ (if slice_index text at == pipe then 1 else 0) + cells_of 0 (drop (cell_text text at) text)
@@ -124,11 +99,7 @@ through : (text : List ℕ) (n at b stop : ℕ) → at + n ≡ stop → (at < st
     → ((k : ℕ) → at < k → k < stop → slice_index text k ≡ pipe → slice_index text (k - 1) ≡ backslash)
     → cells_of b (drop at text) ≤ suc (cells_of 0 (drop stop text) - 1)
 unfolding cells_of
-through text zero at b stop same here escaped =
-    let low = cells_unescaped b (drop at text) in
-    let there : at ≡ stop = omega arith in
-    let read = ap (λ (k : ℕ). cells_of 0 (drop k text)) there in
-    omega arith
+through text zero at b stop same here escaped = grind (arith, cells_unescaped)
 through text (suc n) at b stop same here escaped =
     elim (cases_lt at (length text)) [
       | inl inside ↦
@@ -147,8 +118,7 @@ through text (suc n) at b stop same here escaped =
     ]
 
 one_cell : {after : MathBraces} (d : Document) (at : ℕ) (before : MathBraces) (tokens : List Item) (stop : ℕ) → has d.options tables ≡ true
-    → IsCell d.names.texts (cell_content d (spot at before)) tokens stop after
-    → cells_of 0 (drop at d.text) ≤ suc (cells_of 0 (drop stop d.text) - 1)
+    → IsCell d.names.texts (cell_content d (spot at before)) tokens stop after → cells_of 0 (drop at d.text) ≤ suc (cells_of 0 (drop stop d.text) - 1)
 one_cell {after} d at before tokens stop on is =
     let escaped : PipesAreEscaped d.text at stop = cell_pipes (cell_content d (spot at before)) refl on is in
     let reach = pieces_reach d.names.texts (cell_content d (spot at before)) at before is.pieces (spot stop after) is.division.divided in
@@ -162,10 +132,7 @@ at_most_one t = grind arith
 cells_least : (d : Document) (p : Spot) (cells : List (List (ℕ × Item))) (to : Spot) → has d.options tables ≡ true → AreCells d p cells to
     → cells_of 0 (drop p.at d.text) ≤ (if slice_index d.text p.at == pipe then 1 else 0) + length cells
 unfolding AreCells
-cells_least d p [] to on (n, e, is) =
-    let first = to_text d.text p.at in
-    let none = cells_end 0 (drop (cell_text d.text p.at) d.text) n e in
-    omega arith
+cells_least d p [] to on (n, e, is) = grind (arith, to_text, cells_end)
 cells_least d p (cell ∷ cells) to on (line, tokens, stop, is, same, more) =
     let first = to_text d.text p.at in
     let here = one_cell d (cell_text d.text p.at) p.braces tokens stop.at on is in
@@ -184,12 +151,7 @@ some_mapped f None = refl
 some_mapped f (Some x) = refl
 
 white_blank : (b : ℕ) (bs : List ℕ) → is_white b ≡ true → is_blank_line (b ∷ bs) ≡ is_blank_line bs
-white_blank b bs h =
-    let n : prefix_len is_white (b ∷ bs) ≡ prefix_len is_white bs + 1 = rw h (omega arith) in
-    let rest = drop_next (prefix_len is_white bs) b bs in
-    some_mapped _ (eol_len (drop (prefix_len is_white (b ∷ bs)) (b ∷ bs)))
-    ∙ ap (λ (k : ℕ). at_line_end (drop k (b ∷ bs))) n ∙ ap (λ (xs : List ℕ). at_line_end xs) rest
-    ∙ sym (some_mapped _ (eol_len (drop (prefix_len is_white bs) bs)))
+white_blank b bs h = grind (arith, drop_next, some_mapped)
 
 step_some : (u : Bool) (m : ℕ) → 1 ≤ step true u false m
 step_some u m = grind arith
@@ -198,16 +160,8 @@ some_by : (t w : Bool) (b c : ℕ) (cs : List ℕ) → is_content c ≡ t → is
     → (is_blank_line cs ≡ false → 1 ≤ cells_of c cs) → 1 ≤ cells_of b (c ∷ cs)
 unfolding cells_of
 some_by false w b c cs h k blank more = absurd (true≢false (sym (end_blank c cs (c == line_feed) (c == carriage_return) refl refl h) ∙ blank))
-some_by true true b c cs h k blank more =
-    let rest = more (sym (white_blank c cs k) ∙ blank) in
-    let here = ap (λ (t : Bool). step t (is_pipe c && not (b == backslash)) (is_white c) (cells_of c cs)) h in
-    let least = step_least (is_pipe c && not (b == backslash)) (is_white c) (cells_of c cs) in
-    omega arith
-some_by true false b c cs h k blank more =
-    let here = ap (λ (t : Bool). step t (is_pipe c && not (b == backslash)) (is_white c) (cells_of c cs)) h in
-    let other = ap (λ (w : Bool). step true (is_pipe c && not (b == backslash)) w (cells_of c cs)) k in
-    let some = step_some (is_pipe c && not (b == backslash)) (cells_of c cs) in
-    omega arith
+some_by true true b c cs h k blank more = grind (arith, white_blank, step_least)
+some_by true false b c cs h k blank more = grind (arith, step_some)
 
 some_left : (b : ℕ) (bs : List ℕ) → is_blank_line bs ≡ false → 1 ≤ cells_of b bs
 some_left b [] blank = absurd (true≢false blank)
@@ -221,36 +175,16 @@ tail_by false bs b h = (let some = some_left b bs h in rw h some)
 abbrev UpTo : ℕ → List ℕ → ℕ → Type 0
 UpTo b bs last = pipes_after b (take (last + 1) bs) + (if is_blank_line (drop (last + 1) bs) then 0 else 1) ≤ cells_of b bs
 
-abbrev one_if : Bool → ℕ
-one_if t = if t then 1 else 0
-
-abbrev none_if : Bool → ℕ
-none_if t = if t then 0 else 1
-
 step_counted : (u w : Bool) (m : ℕ) → (if u then 1 else 0) + m ≤ step true u w m
 step_counted u w m = grind arith
 
 further_up : (b c : ℕ) (cs : List ℕ) (k : ℕ) → is_content c ≡ true → UpTo c cs k → UpTo b (c ∷ cs) (k + 1)
 unfolding cells_of
-further_up b c cs k h more =
-    let u : Bool = is_pipe c && not (b == backslash) in
-    let front = take_next (k + 1) c cs in
-    let following = drop_next (k + 1) c cs in
-    let pipes = ap (λ (xs : List ℕ). pipes_after b xs) front in
-    let tail : none_if (is_blank_line (drop (k + 1 + 1) (c ∷ cs))) ≡ none_if (is_blank_line (drop (k + 1) cs)) =
-    ap (λ (xs : List ℕ). none_if (is_blank_line xs)) following in
-    let low : pipes_after c (take (k + 1) cs) + none_if (is_blank_line (drop (k + 1) cs)) ≤ cells_of c cs = more in
-    let here = ap (λ (t : Bool). step t u (is_white c) (cells_of c cs)) h in
-    let counted = step_counted u (is_white c) (cells_of c cs) in
-    omega arith
+further_up b c cs k h more = rw (take_next (k + 1) c cs, drop_next (k + 1) c cs, h) (grind arith)
 
 last_up : (b c : ℕ) (cs : List ℕ) → is_content c ≡ true → (is_pipe c && not (b == backslash)) ≡ true → UpTo b (c ∷ cs) 0
 unfolding cells_of
-last_up b c cs h p =
-    let tail = tail_by (is_blank_line cs) cs c refl in
-    let here = ap (λ (t : Bool). step t (is_pipe c && not (b == backslash)) (is_white c) (cells_of c cs)) h in
-    let counted = step_counted (is_pipe c && not (b == backslash)) (is_white c) (cells_of c cs) in
-    omega arith
+last_up b c cs h p = grind (arith, tail_by, step_counted)
 
 up_by : (u : Bool) (o : Option ℕ) (b c : ℕ) (cs : List ℕ) (last : ℕ) → is_content c ≡ true → (is_pipe c && not (b == backslash)) ≡ u
     → ((k : ℕ) → o ≡ Some k → UpTo c cs k) → option_map_or (λ k. Some (k + 1)) o (if u then Some 0 else None) ≡ Some last → UpTo b (c ∷ cs) last
@@ -260,14 +194,12 @@ up_by false None b c cs last h p more e = absurd (none-some last e)
 
 up_if : (t : Bool) (b c : ℕ) (cs : List ℕ) (last : ℕ) → is_content c ≡ t → ((k : ℕ) → last_pipe_after c (take_while is_content cs) ≡ Some k → UpTo c cs k)
     → last_pipe_after b (if t then c ∷ take_while is_content cs else []) ≡ Some last → UpTo b (c ∷ cs) last
-up_if true b c cs last h more e =
-    up_by (is_pipe c && not (b == backslash)) (last_pipe_after c (take_while is_content cs)) b c cs last h refl more e
+up_if true b c cs last h more e = up_by (is_pipe c && not (b == backslash)) (last_pipe_after c (take_while is_content cs)) b c cs last h refl more e
 up_if false b c cs last h more e = absurd (none-some last e)
 
 up_to_last : (b : ℕ) (bs : List ℕ) (last : ℕ) → last_pipe_after b (take_while is_content bs) ≡ Some last → UpTo b bs last
 up_to_last b [] last e = absurd (none-some last e)
-up_to_last b (c ∷ cs) last e =
-    up_if (is_content c) b c cs last refl (up_to_last c cs) (ap (last_pipe_after b) (sym (take_while-cons is_content c cs)) ∙ e)
+up_to_last b (c ∷ cs) last e = up_if (is_content c) b c cs last refl (up_to_last c cs) (ap (last_pipe_after b) (sym (take_while-cons is_content c cs)) ∙ e)
 
 -- so a header row has no more columns than that, without the pipe at its start
 less_first : (pipes tail most : ℕ) (t : Bool) → pipes + tail ≤ most → pipes - (if t then 1 else 0) + tail ≤ most
@@ -275,19 +207,8 @@ less_first pipes tail most t h = grind arith
 
 leads_by : (t : Bool) (c : ℕ) (cs : List ℕ) (last n : ℕ) → is_pipe c ≡ t → UpTo 0 (c ∷ cs) last → cells_of 0 (c ∷ cs) ≤ (if t then 1 else 0) + n
     → header_columns (c ∷ cs) last ≤ n
-leads_by true c cs last n p up most =
-    let front = take_next last c cs in
-    let pipes = ap (λ (xs : List ℕ). pipes_after 0 xs) front in
-    let one : one_if (is_pipe c && not (0 == backslash)) ≡ 1 = ap (λ (x : Bool). one_if (x && true)) p in
-    let none = ap is_white (eqb-true c pipe p) in
-    let white : prefix_len is_white (c ∷ cs) ≡ 0 = rw none in
-    let begins_it = ap (λ (k : ℕ). begins pipe (drop k (c ∷ cs))) white ∙ p in
-    let less : one_if (begins pipe (drop (prefix_len is_white (c ∷ cs)) (c ∷ cs))) ≡ 1 = ap one_if begins_it in
-    let low : pipes_of (take (last + 1) (c ∷ cs)) + none_if (is_blank_line (drop (last + 1) (c ∷ cs))) ≤ cells_of 0 (c ∷ cs) = up in
-    omega arith
-leads_by false c cs last n p up most =
-    less_first (pipes_of (take (last + 1) (c ∷ cs))) (if is_blank_line (drop (last + 1) (c ∷ cs)) then 0 else 1) n
-    (begins pipe (drop (prefix_len is_white (c ∷ cs)) (c ∷ cs))) (omega arith)
+leads_by true c cs last n p up most = grind (arith, take_next)
+leads_by false c cs last n p up most = grind (arith, less_first)
 
 columns_by : (bs : List ℕ) (o : Option ℕ) (n : ℕ) → last_pipe_after 0 (take_while is_content bs) ≡ o → cells_of 0 bs ≤ (if begins pipe bs then 1 else 0) + n
     → option_map_or (header_columns bs) o 0 ≤ n
@@ -309,7 +230,4 @@ begins_there text at =
 -- The row that begins at a place has at least as many cells as its line has columns when read as a header row.
 pub head_has_cells : (d : Document) (p : Spot) (cells : List (List (ℕ × Item))) (to : Spot) → has d.options tables ≡ true → AreCells d p cells to
     → head_columns (drop p.at d.text) ≤ length cells
-head_has_cells d p cells to on are =
-    let least = cells_least d p cells to on are in
-    let there = ap (λ (t : Bool). one_if t + length cells) (begins_there d.text p.at) in
-    columns_most (drop p.at d.text) (length cells) (omega arith)
+head_has_cells d p cells to on are = grind (arith, cells_least, begins_there, columns_most)

@@ -1,8 +1,7 @@
 -- Rows are one deeper than their table.
-use Rattle.std.proofs.Common.{◌≡◌, ℕ, suc, ◌++◌, List, [], ◌∷◌, length, refl, sym, ◌∙◌, arith}
+use Rattle.std.proofs.Common.{◌≡◌, ℕ, suc, ◌++◌, List, [], ◌∷◌, arith}
 use Rattle.first_pass_grammar.proofs.Common.{AlignmentIndex, Item, Table, TableHead, Names, Mark, ATable, ARow, marks, RowCells, row_marks, TableRows}
 use Rattle.first_pass_grammar.proofs.Common.{table_marks, AreWholeTables}
-use Rattle.first_pass_grammar.specs.Names.{alignments_named}
 
 -- a row at this depth does not follow a table at the same depth
 not_beside : (depth at stop : ℕ) (ms : List Mark) (rows : List RowCells) (tables : List TableRows) → depth ≡ at
@@ -15,14 +14,10 @@ not_beside depth at stop ms (row ∷ rows) tables same e = let n : depth ≡ suc
 not_whole : (depth columns stop : ℕ) (ms : List Mark) (tables : List TableRows) → ATable depth columns ∷ ARow depth stop ∷ ms ≡ table_marks tables → ⊥
 unfolding table_marks
 not_whole depth columns stop ms [] e = cc
-not_whole depth columns stop ms (table ∷ tables) e =
-    let first : depth ≡ table.depth = cc in
-    let later : ARow depth stop ∷ ms ≡ row_marks (suc table.depth) table.rows ++ table_marks tables = cc in
-    not_beside depth table.depth stop ms table.rows tables first later
+not_whole depth columns stop ms (table ∷ tables) e = grind (arith, not_beside)
 
 -- a table is not whole if its header row is beside it
 pub stand_inside : (names : Names) (depth : ℕ) (table row : Item) (index : AlignmentIndex) (more : List (ℕ × Item)) → table.body ≡ Table index
     → row.body ≡ TableHead → AreWholeTables names ((depth, table) ∷ (depth, row) ∷ more) → ⊥
 unfolding AreWholeTables marks
-stand_inside names depth table row index more is head (tables, shows, full) =
-    not_whole depth (length (alignments_named names index)) row.«end» (marks names more) tables (sym (rw is (rw head refl)) ∙ shows)
+stand_inside names depth table row index more is head (tables, shows, full) = grind (arith, not_whole)

@@ -1,16 +1,15 @@
 -- The marks of a table's nodes: each row has as many cells as there are columns, and the number of inserted cells is
 -- limited.
-use Rattle.std.proofs.Common.{◌≡◌, inl, inr, ℕ, zero, suc, ◌+◌, ◌-◌, ◌<◌, ◌≤◌, ◌==◌, nat_lt, nat_le, true, false, List, ◌∷◌, ◌++◌, length, map, take, []}
-use Rattle.std.proofs.Common.{drop, replicate, refl, sym, ap, ◌∙◌, arith, eq-eqb, ne_eqb, leb-true, true≢false, append_assoc, append-nil}
-use Rattle.first_pass_grammar.proofs.Common.{cases_lt, and_parts, false≢true, map-append, at_drop_all, Alignment, Item, ItemBody, Table, TableHead}
-use Rattle.first_pass_grammar.proofs.Common.{TableRow, TableCell, at_depth, at_line_end, Place, offset, start_of, line_len-within, MathBraces, no_braces}
-use Rattle.first_pass_grammar.proofs.Common.{Spot, spot, IsCell, leaves, cell_ends, Names, Document, cell_content, cell_start, cell_text, cell_block}
-use Rattle.first_pass_grammar.proofs.Common.{AreCells, inserted, side_by_side, row_cells, row_block, Taken, TableSoFar, table_so_far, AreRows}
-use Rattle.first_pass_grammar.proofs.Common.{most_inserted, IsTable, Mark, ATable, ARow, ACell, shown, marks, RowCells, row_marks, TableRows, table_marks}
-use Rattle.first_pass_grammar.proofs.Common.{HaveCells, AreFull, AreWholeTables, ShowsNothing, AreEachNode, AllZip, is_markup, CowStr}
+use Rattle.std.proofs.Common.{◌≡◌, inl, inr, ℕ, zero, suc, ◌+◌, ◌-◌, ◌<◌, ◌≤◌, nat_lt, nat_le, true, false, List, ◌∷◌, ◌++◌, length, map, take, []}
+use Rattle.std.proofs.Common.{drop, replicate, refl, sym, ap, ◌∙◌, arith, eq-eqb, leb-true, true≢false, append_assoc, append-nil, ◌||◌}
+use Rattle.first_pass_grammar.proofs.Common.{cases_lt, and_parts, false≢true, map-append, at_drop_all, Alignment, Item, ItemBody, Table, TableHead, TableRow}
+use Rattle.first_pass_grammar.proofs.Common.{TableCell, at_depth, at_line_end, Place, offset, start_of, line_len-within, MathBraces, no_braces, Spot, spot}
+use Rattle.first_pass_grammar.proofs.Common.{IsCell, leaves, cell_ends, Names, Document, cell_content, cell_start, cell_text, cell_block, AreCells, inserted}
+use Rattle.first_pass_grammar.proofs.Common.{side_by_side, row_cells, row_block, Taken, TableSoFar, table_so_far, AreRows, most_inserted, IsTable, Mark}
+use Rattle.first_pass_grammar.proofs.Common.{ATable, ARow, ACell, shown, marks, RowCells, row_marks, TableRows, table_marks, HaveCells, AreFull}
+use Rattle.first_pass_grammar.proofs.Common.{AreWholeTables, ShowsNothing, AreEachNode, AllZip, is_markup, CowStr, or_right}
 use Rattle.first_pass_grammar.specs.declared.kind.Container.{Container}
-use Rattle.first_pass_grammar.specs.WholeTables.{how_often, inserted_in}
-use Rattle.first_pass_grammar.specs.WholeTables.{StartApart}
+use Rattle.first_pass_grammar.specs.WholeTables.{how_often, inserted_in, StartApart}
 use Rattle.first_pass_grammar.proofs.Count.RowsWithRoom.{with_row, RowsWithRoom, counted}
 use Rattle.first_pass_grammar.proofs.Each.EachToken.{HoldsOfTokens, cell_each}
 use Rattle.first_pass_grammar.proofs.Each.EachCell.{deeper_nodes, leaves_nodes}
@@ -18,14 +17,13 @@ use Rattle.first_pass_grammar.proofs.Each.EachPair.{first_pairs, pair_copies, bo
 use Rattle.first_pass_grammar.proofs.Order.RowEnds.{row_ends_its_line, next_starts_later}
 use Rattle.first_pass_grammar.proofs.WholeTables.TableRows.{as_many_cells}
 use Rattle.first_pass_grammar.proofs.Names.TokensNamed.{NamesWithin}
+use Rattle.first_pass_grammar.proofs.Each.EachBlock.{is_first, is_later, is_line_part}
 
--- more nodes, and nodes at another depth
+-- the marks of more nodes
 pub marks-append : (names : Names) (nodes more : List (ℕ × Item)) → marks names (nodes ++ more) ≡ marks names nodes ++ marks names more
 unfolding marks
 marks-append names [] more = refl
-marks-append names (n ∷ nodes) more =
-    let first = shown names n.0 n.1.start n.1.«end» n.1.body in
-    ap (λ (z : List Mark). first ++ z) (marks-append names nodes more) ∙ sym (append_assoc first (marks names nodes) (marks names more))
+marks-append names (n ∷ nodes) more = rw (marks-append names nodes more, append_assoc)
 
 -- a mark, this much deeper
 abbrev pub mark_deeper : ℕ → Mark → Mark
@@ -41,14 +39,14 @@ shown_deeper names d depth start end TableRow = refl
 shown_deeper names d depth start end TableCell = refl
 shown_deeper names d depth start end b = refl
 
+-- the marks of nodes at another depth
 pub marks-at_depth : (names : Names) (d : ℕ) (nodes : List (ℕ × Item)) → marks names (at_depth d nodes) ≡ map (mark_deeper d) (marks names nodes)
 unfolding marks
 marks-at_depth names d [] = refl
 marks-at_depth names d (n ∷ nodes) =
-    let first = shown names n.0 n.1.start n.1.«end» n.1.body in
-    ap (λ (z : List Mark). z ++ marks names (at_depth d nodes)) (shown_deeper names d n.0 n.1.start n.1.«end» n.1.body)
-    ∙ ap (λ (z : List Mark). map (mark_deeper d) first ++ z) (marks-at_depth names d nodes)
-    ∙ sym (map-append (mark_deeper d) first (marks names nodes))
+    let own = shown_deeper names d n.0 n.1.start n.1.«end» n.1.body in
+    let more = marks-at_depth names d nodes in
+    (λ i. own i ++ more i) ∙ sym (map-append (mark_deeper d) (shown names n.0 n.1.start n.1.«end» n.1.body) (marks names nodes))
 
 -- cells, rows and tables, this much deeper
 cells_deeper : (d depth : ℕ) (starts : List ℕ) → map (mark_deeper d) (map (ACell depth) starts) ≡ map (ACell (d + depth)) starts
@@ -60,10 +58,10 @@ unfolding row_marks
 rows_deeper d depth [] = refl
 rows_deeper d depth (row ∷ rows) =
     let one : d + suc depth ≡ suc (d + depth) = omega arith in
+    let cells = cells_deeper d (suc depth) row.starts ∙ ap (λ k. map (ACell k) row.starts) one in
+    let more = rows_deeper d depth rows in
     map-append (mark_deeper d) (ARow depth row.«end» ∷ map (ACell (suc depth)) row.starts) (row_marks depth rows)
-    ∙ ap (λ (z : List Mark). (ARow (d + depth) row.«end» ∷ z) ++ map (mark_deeper d) (row_marks depth rows))
-    (cells_deeper d (suc depth) row.starts ∙ ap (λ k. map (ACell k) row.starts) one)
-    ∙ ap (λ (z : List Mark). (ARow (d + depth) row.«end» ∷ map (ACell (suc (d + depth))) row.starts) ++ z) (rows_deeper d depth rows)
+    ∙ (λ i. (ARow (d + depth) row.«end» ∷ cells i) ++ more i)
 
 abbrev pub table_deeper : ℕ → TableRows → TableRows
 table_deeper d table = record { depth = d + table.depth; columns = table.columns; rows = table.rows }
@@ -73,10 +71,10 @@ unfolding table_marks
 tables_deeper d [] = refl
 tables_deeper d (table ∷ tables) =
     let one : d + suc table.depth ≡ suc (d + table.depth) = omega arith in
+    let own = rows_deeper d (suc table.depth) table.rows ∙ ap (λ k. row_marks k table.rows) one in
+    let more = tables_deeper d tables in
     map-append (mark_deeper d) (ATable table.depth table.columns ∷ row_marks (suc table.depth) table.rows) (table_marks tables)
-    ∙ ap (λ (z : List Mark). (ATable (d + table.depth) table.columns ∷ z) ++ map (mark_deeper d) (table_marks tables))
-    (rows_deeper d (suc table.depth) table.rows ∙ ap (λ k. row_marks k table.rows) one)
-    ∙ ap (λ (z : List Mark). (ATable (d + table.depth) table.columns ∷ row_marks (suc (d + table.depth)) table.rows) ++ z) (tables_deeper d tables)
+    ∙ (λ i. (ATable (d + table.depth) table.columns ∷ own i) ++ more i)
 
 full_deeper : (d : ℕ) (tables : List TableRows) → AreFull tables → AreFull (map (table_deeper d) tables)
 unfolding AreFull
@@ -91,21 +89,19 @@ whole_deeper names d nodes (tables, is, full) = (
   full_deeper d tables full,
 )
 
+-- only a table has parts of a table
+pub body_shows : (body : ItemBody) → (is_first body || is_later body) ≡ true → ShowsNothing body
+body_shows (Table index) h = absurd (false≢true h)
+body_shows TableHead h = absurd (false≢true h)
+body_shows TableRow h = absurd (false≢true h)
+body_shows TableCell h = absurd (false≢true h)
+body_shows _ h = λ names depth start end. refl
+
 markup_shows : (texts : List CowStr) (body : ItemBody) → is_markup body ≡ true → NamesWithin texts body → ShowsNothing body
-markup_shows texts (Table index) h k = absurd (false≢true h)
-markup_shows texts TableHead h k = absurd (false≢true h)
-markup_shows texts TableRow h k = absurd (false≢true h)
-markup_shows texts TableCell h k = absurd (false≢true h)
-markup_shows texts _ h k = λ names depth start end. refl
+markup_shows texts body h k = body_shows body (or_right (is_first body) (is_later body) (or_right (is_line_part body) (is_markup body) h))
 
 pub tokens_show : (texts : List CowStr) → HoldsOfTokens texts ShowsNothing
-tokens_show texts =
-    record {
-      text = λ escaped names depth start end. refl;
-      soft = λ names depth start end. refl;
-      hard = λ by_backslash names depth start end. refl;
-      markup = markup_shows texts;
-    }
+tokens_show texts = grind (arith, markup_shows)
 
 pub none_shown : (names : Names) (nodes : List (ℕ × Item)) → AreEachNode ShowsNothing nodes → marks names nodes ≡ []
 unfolding marks
@@ -122,9 +118,7 @@ unfolding marks
 side_shows names [] [] h = (refl, refl)
 side_shows names (block ∷ blocks) (start ∷ starts) h =
     let rest = side_shows names blocks starts h.1 in
-    let own = h.0 in
-    let both = marks-append names block (side_by_side blocks) in
-    (both ∙ ap (λ (z : List Mark). z ++ marks names (side_by_side blocks)) own ∙ ap (λ (z : List Mark). ACell 0 start ∷ z) rest.0, ap suc rest.1)
+    (marks-append names block (side_by_side blocks) ∙ (λ i. h.0 i ++ rest.0 i), ap suc rest.1)
 side_shows names blocks starts h = absurd h
 
 -- these offsets are in ascending order, from one offset on and before another
@@ -146,11 +140,7 @@ first_between from end (suc n) (start ∷ starts) h = (h.0, h.1, first_between (
 never : (from end : ℕ) (starts : List ℕ) → AreBetween from end starts → how_often end starts ≡ 0
 unfolding AreBetween how_often
 never from end [] h = refl
-never from end (start ∷ starts) h =
-    let rest = never (suc start) end starts h.2 in
-    let low = h.1 in
-    let other : (start == end) ≡ false = ne_eqb start end (λ same. omega arith) in
-    rw (other, rest) refl
+never from end (start ∷ starts) h = grind (arith, never (suc start) end starts h.2)
 
 -- they start apart, and so they do with copies of the end after them
 copies_apart : (end start n : ℕ) → StartApart end (start ∷ replicate n end)
@@ -180,7 +170,6 @@ often_both end [] ys = omega arith
 often_both end (x ∷ xs) ys = (let rest = often_both end xs ys in omega arith)
 
 -- a written cell starts before the end of its row
-
 written_before : (d : Document) (p : Spot) (tokens : List Item) (stop : Spot) (cells : List (List (ℕ × Item))) (to : Spot)
     → at_line_end (drop (cell_text d.text p.at) d.text) ≡ false
     → IsCell d.names.texts (cell_content d (spot (cell_text d.text p.at) p.braces)) tokens stop.at stop.braces → AreCells d stop cells to
@@ -204,8 +193,7 @@ written_before d p tokens stop cells to on cell more =
 
 -- the marks of a row's cells have their starts
 cell_shows : {after : MathBraces} (d : Document) (p : Spot) (start : ℕ) (tokens : List Item) (stop : ℕ)
-    → IsCell d.names.texts (cell_content d p) tokens stop after
-    → marks d.names (cell_block start stop tokens) ≡ ACell 0 start ∷ []
+    → IsCell d.names.texts (cell_content d p) tokens stop after → marks d.names (cell_block start stop tokens) ≡ ACell 0 start ∷ []
 unfolding marks
 cell_shows d p start tokens stop h =
     ap (λ (z : List Mark). ACell 0 start ∷ z)
@@ -274,8 +262,7 @@ one_over : (names : Names) (columns most «end» many : ℕ) (first more items :
 unfolding row_marks HaveCells inserted_in
 one_over names columns most end many first more items e fits (starts, show, size, apart, often) (rows, these, have, node_bound) = (
   record { «end» = end; starts = starts } ∷ rows,
-  ap (marks names) e ∙ marks-append names first more ∙ ap (λ (z : List Mark). z ++ marks names more) show
-      ∙ ap (λ (z : List Mark). (ARow 0 end ∷ map (ACell 1) starts) ++ z) these,
+  ap (marks names) e ∙ marks-append names first more ∙ (λ i. show i ++ these i),
   (size, apart, have),
   omega arith,
 )
@@ -285,8 +272,7 @@ counted_show : (d : Document) (path : List Container) (table : TableSoFar) (line
 unfolding RowsWithRoom
 counted_show d path table [] t e = none_over d table.columns t.items (ap (λ (z : Taken). z.items) e) table.room
 counted_show d path table (line ∷ lines) t (inl (none, e)) = none_over d table.columns t.items (ap (λ (z : Taken). z.items) e) table.room
-counted_show d path table (line ∷ lines) t (inr (row, has, inl (stops, e))) =
-    none_over d table.columns t.items (ap (λ (z : Taken). z.items) e) table.room
+counted_show d path table (line ∷ lines) t (inr (row, has, inl (stops, e))) = none_over d table.columns t.items (ap (λ (z : Taken). z.items) e) table.room
 counted_show d path table (line ∷ lines) t (inr (row, has, inr (is, more, rest, e))) =
     let n : ℕ = inserted table.columns row.cells in
     let fits = leb-true n table.room (and_parts (nat_lt 0 (length row.cells)) (nat_le n table.room) is).1 in
@@ -313,14 +299,10 @@ table_shows d path p alignments lines t h low =
     let head : List (ℕ × Item) = row_block TableHead columns (offset p) h.cells h.head_end in
     let first : RowCells = record { «end» = h.head_end; starts = starts } in
     let count : shown d.names 0 (offset p) (start_of (length d.text) t.left) (Table h.index) ≡ ATable 0 columns ∷ [] = rw h.named refl in
+    let own : marks d.names (head ++ h.body) ≡ row_marks 0 (first ∷ rows) = marks-append d.names head h.body ∙ (λ i. show i ++ these i) in
     let inside : marks d.names (at_depth 1 (head ++ h.body)) ≡ row_marks 1 (first ∷ rows) =
-    marks-at_depth d.names 1 (head ++ h.body)
-    ∙ ap (map (mark_deeper 1))
-    (marks-append d.names head h.body ∙ ap (λ (z : List Mark). z ++ marks d.names h.body) show
-    ∙ ap (λ (z : List Mark). (ARow 0 h.head_end ∷ map (ACell 1) starts) ++ z) these)
-    ∙ rows_deeper 1 0 (first ∷ rows) in (
+    marks-at_depth d.names 1 (head ++ h.body) ∙ ap (map (mark_deeper 1)) own ∙ rows_deeper 1 0 (first ∷ rows) in (
       record { depth = 0; columns = columns; rows = first ∷ rows } ∷ [],
-      ap (marks d.names) h.items_are ∙ ap (λ (z : List Mark). z ++ marks d.names (at_depth 1 (head ++ h.body))) count
-          ∙ ap (λ (z : List Mark). ATable 0 columns ∷ z) (inside ∙ sym (append-nil (row_marks 1 (first ∷ rows)))),
+      ap (marks d.names) h.items_are ∙ (λ i. count i ++ (inside ∙ sym (append-nil (row_marks 1 (first ∷ rows)))) i),
       ((size, apart, have), omega arith, tt),
     )

@@ -1,15 +1,14 @@
 -- Each block of a derived tree has whole tables, or no part of a table.
-use Rattle.std.proofs.Common.{◌≡◌, ℕ, ◌≤◌, ◌||◌, true, List, [], ◌∷◌, ◌++◌, length, Option, Some, IfSome, refl, ap}
-use Rattle.first_pass_grammar.proofs.Common.{false≢true, or_left, or_right, Alignment, Item, ItemBody, Table, TableHead, TableRow, TableCell, block_of}
-use Rattle.first_pass_grammar.proofs.Common.{Place, Skeleton, Kind, Document, around, Names, Continues, Opening, OpensAs, Level, Remaining, IsSequence}
-use Rattle.first_pass_grammar.proofs.Common.{headed_table, inserted, Taken, most_inserted, IsTable, IsText, Mark, marks, table_marks, AreFull}
-use Rattle.first_pass_grammar.proofs.Common.{AreWholeTables, ShowsNothing}
+use Rattle.std.proofs.Common.{◌≡◌, ℕ, ◌≤◌, List, [], ◌∷◌, ◌++◌, length, Option, Some, IfSome, refl, ap}
+use Rattle.first_pass_grammar.proofs.Common.{or_left, or_right, Alignment, Item, block_of, Place, Skeleton, Kind, Document, around, Names, Continues, Opening}
+use Rattle.first_pass_grammar.proofs.Common.{OpensAs, Level, Remaining, IsSequence, headed_table, inserted, Taken, most_inserted, IsTable, IsText, Mark}
+use Rattle.first_pass_grammar.proofs.Common.{marks, table_marks, AreFull, AreWholeTables, ShowsNothing}
 use Rattle.first_pass_grammar.specs.declared.kind.Container.{Container}
 use Rattle.first_pass_grammar.proofs.Each.EachBlock.{is_first, is_later, HoldsOfBlocks, HoldsOfLeaves, text_holds, leaf_holds, openings}
 use Rattle.first_pass_grammar.proofs.Each.EachCell.{block_nodes}
 use Rattle.first_pass_grammar.proofs.Each.EachOpening.{LeafHolds, HoldsOfEachLeaf, AnyHead, HoldsFrom, HoldsOfLeft, each_opened}
 use Rattle.first_pass_grammar.proofs.Sequences.PlacesKept.{IsAt, AreAt, at_kept}
-use Rattle.first_pass_grammar.proofs.WholeTables.TableMarks.{none_shown, table_shows}
+use Rattle.first_pass_grammar.proofs.WholeTables.TableMarks.{none_shown, table_shows, body_shows}
 
 -- nodes that are no part of a table
 pub whole_none : (names : Names) (nodes : List (ℕ × Item)) → marks names nodes ≡ [] → AreWholeTables names nodes
@@ -29,14 +28,6 @@ PlainFrom text from = HoldsFrom (IsAt text) ShowsNothing from
 
 abbrev pub ShownBy : Option Item → Type 0
 ShownBy marker = IfSome marker (λ x. ShowsNothing x.body)
-
--- only a table has parts of a table
-body_shows : (body : ItemBody) → (is_first body || is_later body) ≡ true → ShowsNothing body
-body_shows (Table index) h = absurd (false≢true h)
-body_shows TableHead h = absurd (false≢true h)
-body_shows TableRow h = absurd (false≢true h)
-body_shows TableCell h = absurd (false≢true h)
-body_shows _ h = λ names depth start end. refl
 
 module _ (d : Document) (full : HeadsAreFull d) where
   blocks_whole : HoldsOfBlocks d ShowsNothing (AreWholeTables d.names)

@@ -1,9 +1,9 @@
 -- The tables of a derived tree are whole.
 use Rattle.std.proofs.Common.{◌≡◌, ℕ, suc, ◌==◌, Bool, true, false, List, [], ◌∷◌, ◌++◌, length, map, refl, sym, ap, subst, ◌∙◌, append_assoc}
-use Rattle.first_pass_grammar.proofs.Common.{cond_both, Item, ItemBody, DefinitionListTitle, at_depth, tight_body, tightened, lines_at, Names, Document}
-use Rattle.first_pass_grammar.proofs.Common.{Line, level, Lines, nothing, is_paragraph_body, begins_paragraph, What, ALeaf, Rows, End, OneOf, is_loose}
-use Rattle.first_pass_grammar.proofs.Common.{ATitle, rows_of, as_title, row_items, tight_in, items_of, Tables, root_of, Derives, Mark, ATable, shown, marks}
-use Rattle.first_pass_grammar.proofs.Common.{row_marks, TableRows, table_marks, AreFull, AreWholeTables}
+use Rattle.first_pass_grammar.proofs.Common.{cond_both, Item, ItemBody, DefinitionListTitle, at_depth, tight_body, tightened, lines_at, Names, Document, Line}
+use Rattle.first_pass_grammar.proofs.Common.{level, Lines, nothing, is_paragraph_body, begins_paragraph, What, ALeaf, Rows, End, OneOf, is_loose, ATitle}
+use Rattle.first_pass_grammar.proofs.Common.{rows_of, as_title, row_items, tight_in, items_of, Tables, root_of, Derives, Mark, shown, marks, TableRows}
+use Rattle.first_pass_grammar.proofs.Common.{table_marks, AreFull, AreWholeTables}
 use Rattle.first_pass_items.specs.declared.item.ItemBody.TheVariants.{Paragraph as ParagraphBody}
 use Rattle.first_pass_grammar.proofs.Each.EachRow.{HoldsOfRow, HoldsOfEachRow, each_row}
 use Rattle.first_pass_grammar.proofs.WholeTables.FullHeads.{heads_are_full}
@@ -15,9 +15,7 @@ use Rattle.first_pass_grammar.proofs.WholeTables.WholeBlocks.{whole_none, sequen
 pub table_marks-append : (a b : List TableRows) → table_marks (a ++ b) ≡ table_marks a ++ table_marks b
 unfolding table_marks
 table_marks-append [] b = refl
-table_marks-append (t ∷ a) b =
-    let first : List Mark = ATable t.depth t.columns ∷ row_marks (suc t.depth) t.rows in
-    ap (λ (z : List Mark). first ++ z) (table_marks-append a b) ∙ sym (append_assoc first (table_marks a) (table_marks b))
+table_marks-append (t ∷ a) b = rw (table_marks-append a b, append_assoc)
 
 both_full : (a b : List TableRows) → AreFull a → AreFull b → AreFull (a ++ b)
 unfolding AreFull
@@ -27,9 +25,7 @@ both_full (t ∷ a) b h k = (h.0, h.1, both_full a b h.2 k)
 pub whole_both : (names : Names) (nodes more : List (ℕ × Item)) → AreWholeTables names nodes → AreWholeTables names more → AreWholeTables names (nodes ++ more)
 unfolding AreWholeTables
 whole_both names nodes more (a, e, h) (b, f, k) =
-    let first = ap (λ (z : List Mark). z ++ marks names more) e in
-    let second = ap (λ (z : List Mark). table_marks a ++ z) f in
-    (a ++ b, marks-append names nodes more ∙ first ∙ second ∙ sym (table_marks-append a b), both_full a b h k)
+    (a ++ b, marks-append names nodes more ∙ (λ i. e i ++ f i) ∙ sym (table_marks-append a b), both_full a b h k)
 
 -- nodes with the same marks
 pub whole_same : (names : Names) (nodes more : List (ℕ × Item)) → marks names more ≡ marks names nodes → AreWholeTables names nodes → AreWholeTables names more
@@ -45,10 +41,11 @@ pub marks-tightened : (names : Names) (depth : ℕ) (nodes : List (ℕ × Item))
 unfolding marks
 marks-tightened names depth [] = refl
 marks-tightened names depth (n ∷ nodes) =
-    let shown_as : ItemBody → List Mark = shown names n.0 n.1.start n.1.«end» in
-    ap (λ (z : List Mark). z ++ marks names (map (tightened depth) nodes)) (cond_both (n.0 == depth) _ _
-    (λ (x : Item). shown names n.0 x.start x.«end» x.body ≡ shown_as n.1.body) (λ b. tight_shows names n.0 n.1.start n.1.«end» n.1.body) (λ b. refl))
-    ∙ ap (λ (z : List Mark). shown names n.0 n.1.start n.1.«end» n.1.body ++ z) (marks-tightened names depth nodes)
+    let shows : Item → List Mark = λ x. shown names n.0 x.start x.«end» x.body in
+    let own : shows (tightened depth n).1 ≡ shows n.1 = cond_both (n.0 == depth) _ _ (λ (x : Item). shows x ≡ shows n.1)
+    (λ b. tight_shows names n.0 n.1.start n.1.«end» n.1.body) (λ b. refl) in
+    let more = marks-tightened names depth nodes in
+    λ i. own i ++ more i
 
 -- the leaf blocks of rows have whole tables, or no part of a table
 abbrev pub WholeRows : Names → Rows → Type 0

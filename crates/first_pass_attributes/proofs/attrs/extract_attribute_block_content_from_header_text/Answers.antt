@@ -1,4 +1,4 @@
-use Rattle.std.proofs.Common.{◌≡◌, ℕ, ◌-◌, ◌<◌, List, true, length, slice_index, arith, sym, ap, subst, ◌∙◌}
+use Rattle.std.proofs.Common.{◌≡◌, ℕ, ◌-◌, ◌<◌, List, length, slice_index, arith}
 use Rattle.std.proofs.lemmas.Grind.{common_steps}
 use Rattle.std.proofs.lemmas.Str.{IsCharBoundary-before_ascii, IsCharBoundary-after_ascii}
 use Rattle.first_pass_items.specs.Bytes.{left_brace, right_brace}
@@ -7,10 +7,7 @@ use Rattle.first_pass_attributes.proofs.BlockFacts.{kept-end}
 use Rattle.first_pass_attributes.proofs.attrs.extract_attribute_block_content_from_header_text.Goals as goal
 
 pub returns-in-Some-clause-closes : goal.returns-in-Some-clause-closes
-returns-in-Some-clause-closes c =
-    ap (λ (kept : List ℕ). slice_index c.args.heading.now (length kept - 1)) c.without_last-kept.ensures
-    ∙ kept-end c.args.heading.now _ right_brace
-    (subst (λ (kept : List ℕ). ends right_brace kept ≡ true) c.without_last-kept.ensures (sym c.ends.ensures.value ∙ c.if-not-ends.false))
+returns-in-Some-clause-closes c = grind (arith, kept-end)
 
 pub returns-in-Some-clause-between : goal.returns-in-Some-clause-between
 returns-in-Some-clause-between c =

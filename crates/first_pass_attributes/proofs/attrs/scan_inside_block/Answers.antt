@@ -1,6 +1,4 @@
-use Rattle.std.proofs.Common.{◌≡◌, ℕ, ◌+◌, ◌-◌, length, take, sym, ap, ◌∙◌, arith}
-use Rattle.std.specs.List.{suffix_len}
-use Rattle.first_pass_attributes.specs.AttributeBlocks.{is_inside_block}
+use Rattle.std.proofs.Common.{◌≡◌, ℕ, ◌+◌, ◌-◌, sym, arith}
 use Rattle.first_pass_attributes.proofs.BreakFacts.{top-low, after-break, after-none, before-kept}
 use Rattle.first_pass_attributes.proofs.attrs.scan_inside_block.Goals as goal
 
@@ -28,11 +26,4 @@ loop-at-preserved c =
     }
 
 pub returns-clause-value : goal.returns-clause-value
-returns-clause-value c =
-    let bytes = c.args.bytes.now in
-    let at : ℕ = c.loop-at.at in
-    let size : length bytes - (length bytes - at) ≡ at = omega (arith, c.loop-at.invariant.within) in
-    let near = c.scan_near_inside_block.ensures.value
-    ∙ ap (suffix_len is_inside_block) (c.without_last.ensures ∙ ap (λ n. take n bytes) size) in
-    let whole = before-kept bytes at c.loop-at.invariant.within c.loop-at.invariant.inside in
-    omega (arith, near, whole)
+returns-clause-value c = grind (arith, before-kept)

@@ -2,7 +2,7 @@ use Rattle.std.proofs.Common.{◌≡◌, ℕ, ◌+◌, ◌-◌, ◌<◌, ◌∷�
 use Rattle.std.specs.List.{prefix_len}
 use Rattle.std.proofs.lemmas.List.{take_rest}
 use Rattle.first_pass_items.proofs.ResultFacts.{on_err}
-use Rattle.first_pass_attributes.specs.Attributes.{Attributes, HasSeveral, is_between_words, is_attribute_word, words, with_words, attributes_in}
+use Rattle.first_pass_attributes.specs.Attributes.{Attributes, is_between_words, is_attribute_word, words, with_words, attributes_in}
 use Rattle.first_pass_attributes.proofs.AttributeFacts.{with-next}
 use Rattle.first_pass_attributes.proofs.MemoryFacts.{several-left}
 use Rattle.first_pass_attributes.proofs.WordFacts.{words-next, words-last, word-end, word-start, ahead-long, ahead-next}
@@ -15,42 +15,16 @@ pub scan_word_within-end-requires : goal.scan_word_within-end-requires
 scan_word_within-end-requires c = ahead-long c.loop-rest.rest.now c.loop-rest.ahead.now c.loop-rest.invariant.ahead
 
 pub range-requires-clause-end_boundary : goal.range-requires-clause-end_boundary
-range-requires-clause-end_boundary c =
-    let text : List ℕ = c.loop-rest.rest.now in
-    word-end text c.scan_word_within-end.result
-    (c.scan_word_within-end.ensures.value ∙ ap (prefix_len (λ b. not (is_between_words b))) (sym c.loop-rest.invariant.ahead))
+range-requires-clause-end_boundary c = grind (arith, word-end)
 
 pub range_from-rest-requires : goal.range_from-rest-requires
-range_from-rest-requires c some =
-    let text : List ℕ = c.loop-rest.rest.now in
-    let less : c.scan_word_within-end.result < length text = grind arith in
-    word-start text c.scan_word_within-end.result
-    (c.scan_word_within-end.ensures.value ∙ ap (prefix_len (λ b. not (is_between_words b))) (sym c.loop-rest.invariant.ahead))
-    c.loop-rest.invariant.utf8 less
+range_from-rest-requires c some = grind (arith, word-start)
 
 pub returns-then-end-rest-clause-value : goal.returns-then-end-rest-clause-value
-returns-then-end-rest-clause-value c =
-    let before : Attributes = attributes_in c.loop-rest.attributes in
-    let text : List ℕ = c.loop-rest.rest.now in
-    let last = words-last text c.scan_word_within-end.result
-    (c.scan_word_within-end.ensures.value ∙ ap (prefix_len (λ b. not (is_between_words b))) (sym c.loop-rest.invariant.ahead)) c.if-end-rest.true in
-    let whole : c.scan_word_within-end.result - 0 ≡ c.scan_word_within-end.result = omega arith in
-    c.in_ok-add_word.ensures.value
-    ∙ ap (λ x. with_words before (filter is_attribute_word (x ∷ []))) (c.range.ensures.value ∙ ap (λ n. take n text) whole)
-    ∙ ap (with_words before) (sym last)
-    ∙ c.loop-rest.invariant.left
+returns-then-end-rest-clause-value c = grind (arith, words-last)
 
 pub returns-in_err-add_word-clause-err : goal.returns-in_err-add_word-clause-err
-returns-in_err-add_word-clause-err c =
-    let before : Attributes = attributes_in c.loop-rest.attributes in
-    let text : List ℕ = c.loop-rest.rest.now in
-    let end : ℕ = c.scan_word_within-end.result in
-    let whole : end - 0 ≡ end = omega arith in
-    let word = c.range.ensures.value ∙ ap (λ n. take n text) whole in
-    let value = c.scan_word_within-end.ensures.value ∙ ap (prefix_len (λ b. not (is_between_words b))) (sym c.loop-rest.invariant.ahead) in
-    on_err _ (subst HasSeveral c.loop-rest.invariant.left
-    (several-left before text end value
-    (subst (λ (x : List ℕ). HasSeveral (with_words before (filter is_attribute_word (x ∷ [])))) word c.in_err-add_word.ensures.err)))
+returns-in_err-add_word-clause-err c = grind (arith, on_err, several-left)
 
 pub loop-rest-preserved : goal.loop-rest-preserved
 loop-rest-preserved c =

@@ -7,9 +7,7 @@ use Rattle.first_pass_attributes.proofs.MemoryFacts.{several-class, several-key}
 use Rattle.first_pass_attributes.proofs.words.add_word.Goals as goal
 
 pub returns-then-not-is_attribute_word-clause-value : goal.returns-then-not-is_attribute_word-clause-value
-returns-then-not-is_attribute_word-clause-value c =
-    let no : is_attribute_word c.args.word.now ≡ false = cc in
-    sym (told-none (attributes_in c.args.attributes.now) c.args.word.now no)
+returns-then-not-is_attribute_word-clause-value c = grind (arith, told-none)
 
 pub returns-then-mark-eq35-clause-value : goal.returns-then-mark-eq35-clause-value
 returns-then-mark-eq35-clause-value c =

@@ -3,9 +3,7 @@ use Rattle.first_pass_attributes.proofs.WordFacts.{solid-to}
 use Rattle.first_pass_attributes.proofs.words.scan_word_within.Goals as goal
 
 pub returns-then-limit-run-clause-value : goal.returns-then-limit-run-clause-value
-returns-then-limit-run-clause-value c =
-    solid-to c.args.bytes.now c.args.limit c.solid_run-run.result c.args.limit c.requires c.solid_run-run.ensures c.if-limit-run.true (omega arith)
-    (λ less. absurd (omega (arith, less)))
+returns-then-limit-run-clause-value c = grind (arith, solid-to)
 
 pub returns-then-is_between_words-clause-value : goal.returns-then-is_between_words-clause-value
 returns-then-is_between_words-clause-value c =

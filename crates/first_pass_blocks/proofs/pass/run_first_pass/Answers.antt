@@ -1,9 +1,6 @@
-use Rattle.std.proofs.Common.{◌≡◌, ◌≤◌, ◌+◌, inl, inr, ℕ, List, [], length, None, arith, refl, sym, ap, ◌∙◌, subst}
-use Rattle.first_pass_grammar.proofs.Common.{IsCharBoundary-start, IsCharBoundary-end, lines_at-end, document, Options, lines_from, Derives}
-use Rattle.first_pass_lists.specs.declared.state.PassState.{PassState}
-use Rattle.first_pass_order.specs.Ordered.{reached, IsReadTo, IsReadFrom}
-use Rattle.first_pass_ready.specs.State.{Ready}
-use Rattle.first_pass_names.specs.TableEntries.{names_of, tables_in, tables_of}
+use Rattle.std.proofs.Common.{◌≡◌, ◌≤◌, inl, inr, ℕ, List, [], length, None, arith, refl, ap, ◌∙◌, subst}
+use Rattle.first_pass_grammar.proofs.Common.{IsCharBoundary-start, IsCharBoundary-end, lines_at-end, document, Options, Derives}
+use Rattle.first_pass_blocks.proofs.Common.{PassState, reached, IsReadTo, IsReadFrom, Ready, names_of, tables_in, tables_of, extends_equal}
 use Rattle.first_pass_blocks.proofs.BlockRead.{block_more, lines_more}
 use Rattle.first_pass_blocks.proofs.LinkDefinitions.{none_written}
 use Rattle.first_pass_grammar.proofs.Count.CountedNodes.{own_at_most}
@@ -14,7 +11,6 @@ use Rattle.first_pass_order.proofs.SettledNodes.{derived_settled}
 use Rattle.first_pass_order.proofs.OrderLemmas.{ordered_whole}
 use Rattle.first_pass_open.proofs.FrontLemmas.{outer-none}
 use Rattle.first_pass_ready.proofs.StateLemmas.{ready_finish}
-use Rattle.first_pass_names.proofs.NameLemmas.{extends_equal}
 use Rattle.first_pass_blocks.proofs.pass.run_first_pass.Goals.{After-drop-pass-2}
 use Rattle.first_pass_blocks.proofs.pass.run_first_pass.Goals as goal
 
@@ -23,8 +19,7 @@ loop-ix-init c = record {
   same_text = c.in_ok-pass.ensures.text;
   same_options = c.in_ok-pass.ensures.options;
   boundary = IsCharBoundary-start c.args.text.now c.utf8.text;
-  ready = λ names more. subst (λ z. Ready (document c.args.text.now c.args.options names) z c.in_ok-pass.pass.state (lines_from c.args.text.now 0))
-      (sym c.in_ok-pass.ensures.empty) (c.in_ok-pass.ensures.ready names);
+  ready = λ names more. rw c.in_ok-pass.ensures.empty (c.in_ok-pass.ensures.ready names);
   order = inl c.in_ok-pass.ensures.order;
   named = c.in_ok-pass.ensures.named;
   written = none_written c.args.text.now c.in_ok-pass.pass.allocs c.in_ok-pass.ensures.empty;
@@ -33,33 +28,21 @@ loop-ix-init c = record {
 
 pub loop-pass-init : goal.loop-pass-init
 loop-pass-init c =
-    let ix = c.loop-ix.ix in
     let one = c.in_ok-ix.ensures in
     let later = one.block.later in
-    record {
-      read = block_more c.args.text.now c.args.options c.loop-ix.pass c.parse_block.new.self (1 + ix) ix c.in_ok-ix.ix c.loop-ix.invariant one.block
-          (omega arith);
-      front = one.front;
-      later = omega arith;
-    }
+    record { read = block_more c.loop-ix.invariant one.block (omega arith); front = one.front; later = omega arith }
 
 pub loop-pass-preserved : goal.loop-pass-preserved
 loop-pass-preserved c =
-    let ix = c.loop-pass.ix in
     let one = c.in_ok-ix-2.ensures in
     let later = one.block.later in
-    record {
-      read = block_more c.args.text.now c.args.options c.loop-pass.pass c.parse_known.new.self (1 + ix) ix c.in_ok-ix-2.ix c.loop-pass.invariant.read one.block
-          (omega arith);
-      front = one.front;
-      later = (let before = c.loop-pass.invariant.later in omega arith);
-    }
+    let before = c.loop-pass.invariant.later in
+    record { read = block_more c.loop-pass.invariant.read one.block (omega arith); front = one.front; later = omega arith }
 
 pub loop-ix-preserved : goal.loop-ix-preserved
 loop-ix-preserved c =
     let more = c.read_blank_lines-ix.ensures in
-    lines_more c.args.text.now c.args.options c.loop-pass.pass c.loop-pass.ix c.read_blank_lines-ix.result c.loop-pass.invariant.read more.later more.boundary
-    more.read
+    lines_more c.loop-pass.invariant.read more.later more.boundary more.read
 
 -- At the end of the text no block has ended at a blank line.
 at_end : (options : Options) (text : List ℕ) (r : PassState) (at : ℕ) → length text ≤ at → IsReadFrom options text r at → IsReadTo text r at
@@ -78,19 +61,14 @@ derived c =
     let d = document c.args.text.now c.args.options names in
     let i = c.loop-ix.invariant in
     let now = c.close_containers.new.state in
-    let here = subst (Ready d (tables_of c.loop-ix.pass.allocs) c.loop-ix.pass.state) (lines_at-end c.args.text.now c.loop-ix.ix c.loop-ix-test.false)
-    (i.ready names (extends_equal _ _ refl)) in
+    let here = rw (lines_at-end c.args.text.now c.loop-ix.ix c.loop-ix-test.false) at (i.ready names (extends_equal _ _ refl)) in
     let closed : Ready d (tables_of c.loop-ix.pass.allocs) now [] =
     c.close_containers.ensures.kept.ready d (tables_of c.loop-ix.pass.allocs) [] refl (λ m low high. refl) here in
     ready_finish d (tables_of c.loop-ix.pass.allocs) now (all_closed c) closed
 
 pub returns-clause-derived : goal.returns-clause-derived
 returns-clause-derived c =
-    let old = c.loop-ix.pass.allocs in
-    let new = c.sort_tables.new.self in
-    let nodes = c.close_containers.new.state.tree.nodes in
-    subst (λ m. Derives (document c.args.text.now c.args.options m) nodes (tables_of new)) (sym c.sort_tables.ensures.names)
-    (subst (Derives (document c.args.text.now c.args.options (names_of old)) nodes) (sym (ap tables_in c.sort_tables.ensures.entries)) (derived c))
+    rw (c.sort_tables.ensures.names, ap tables_in c.sort_tables.ensures.entries) (derived c)
 
 pub returns-clause-only : goal.returns-clause-only
 returns-clause-only c =
@@ -99,13 +77,11 @@ returns-clause-only c =
 
 pub returns-clause-tables : goal.returns-clause-tables
 returns-clause-tables c =
-    let d = document c.args.text.now c.args.options (names_of c.sort_tables.new.self) in
-    derived_whole d c.close_containers.new.state.tree.nodes (tables_of c.sort_tables.new.self) (returns-clause-derived c)
+    derived_whole _ c.close_containers.new.state.tree.nodes (tables_of c.sort_tables.new.self) (returns-clause-derived c)
 
 pub returns-clause-settled : goal.returns-clause-settled
 returns-clause-settled c =
-    let d = document c.args.text.now c.args.options (names_of c.loop-ix.pass.allocs) in
-    derived_settled d c.close_containers.new.state.tree.nodes (tables_of c.loop-ix.pass.allocs) (derived c)
+    derived_settled _ c.close_containers.new.state.tree.nodes (tables_of c.loop-ix.pass.allocs) (derived c)
 
 pub returns-clause-order : goal.returns-clause-order
 returns-clause-order c =

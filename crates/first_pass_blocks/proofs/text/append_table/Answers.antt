@@ -1,11 +1,8 @@
 use Rattle.std.proofs.Common.{◌+◌, IsCharBoundary, length, subst, sym, ◌∙◌}
-use Rattle.first_pass_grammar.proofs.Common.{Item, Table, Forest, Names, Extends, NamesAlignments, document}
-use Rattle.first_pass_open.specs.OpenBlock.{opened_block}
-use Rattle.first_pass_names.specs.TableEntries.{names_of}
-use Rattle.first_pass_names.proofs.NameLemmas.{extends_none, extends_both, extends_alignments, alignments_last}
+use Rattle.first_pass_grammar.proofs.Common.{Table, Names, Extends, NamesAlignments, document}
+use Rattle.first_pass_blocks.proofs.Common.{opened_block, names_of, extends_none, extends_both, extends_alignments, line_stops, AppendsRows}
+use Rattle.first_pass_names.proofs.NameLemmas.{alignments_last}
 use Rattle.first_pass_open.proofs.PathLemmas.{open_are_in}
-use Rattle.first_pass_text.proofs.OrderHeading.{line_stops}
-use Rattle.first_pass_tables.specs.Appends.{AppendsRows}
 use Rattle.first_pass_blocks.proofs.Leaves.TextsAre.{only_opened, body_at, table_text, table_between}
 use Rattle.first_pass_blocks.proofs.text.append_table.Goals as goal
 
@@ -19,30 +16,19 @@ parse_table-requires-clause-body c =
 pub parse_table-requires-clause-open : goal.parse_table-requires-clause-open
 parse_table-requires-clause-open c = only_opened c.args.tree.now c.open_block.new.tree c.args.start c.in_ok-index.index c.in_ok-open_block.ensures.tree
 
--- the names after the table's rows are read extend those with its alignments
-grown_table : (c : goal.In_ok-next) → Extends (names_of c.parse_table.new.allocs) (names_of c.allocate_alignment.new.self)
-grown_table c = c.in_ok-next.ensures.more.names
-
 -- later names name its alignments
 named_yet : (c : goal.In_ok-next) (more : Names) → Extends more (names_of c.parse_table.new.allocs)
     → NamesAlignments more c.in_ok-index.index c.args.table.alignments.items
 named_yet c more e =
     let named = names_of c.allocate_alignment.new.self in
     alignments_last (names_of c.args.allocs.now) named more c.in_ok-index.index c.args.table.alignments.items c.in_ok-index.ensures.index
-    c.in_ok-index.ensures.names
-    (extends_both more (names_of c.parse_table.new.allocs) named e (grown_table c))
+    c.in_ok-index.ensures.names (extends_both more (names_of c.parse_table.new.allocs) named e c.in_ok-next.ensures.more.names)
 
 -- the rows follow the table's node
 rows_read : (c : goal.In_ok-next) → AppendsRows (document c.args.source.now.text.now c.args.source.now.options (names_of c.parse_table.new.allocs))
     (length c.args.table.alignments.items) c.args.start (c.args.start + c.args.table.table_head_len)
     (opened_block c.args.tree.now c.args.start (Table c.in_ok-index.index)) c.parse_table.new.tree c.in_ok-next.next
-rows_read c =
-    let d = document c.args.source.now.text.now c.args.source.now.options (names_of c.parse_table.new.allocs) in
-    let body = c.args.start + c.args.table.table_head_len in
-    subst (λ (f : Forest Item). AppendsRows d (length c.args.table.alignments.items) c.args.start body f c.parse_table.new.tree c.in_ok-next.next)
-    c.in_ok-open_block.ensures.tree
-    (subst (λ n. AppendsRows d n c.args.start body c.open_block.new.tree c.parse_table.new.tree c.in_ok-next.next)
-    (c.len.ensures ∙ c.args.table.alignments.ok.0) c.in_ok-next.ensures.rows)
+rows_read c = rw (c.in_ok-open_block.ensures.tree, c.len.ensures, c.args.table.alignments.ok.0) at c.in_ok-next.ensures.rows
 
 pub returns-clause-more : goal.returns-clause-more
 returns-clause-more c =
@@ -55,27 +41,15 @@ returns-clause-more c =
 
 pub returns-clause-block : goal.returns-clause-block
 returns-clause-block c = λ marker.
-    let text = c.args.source.now.text.now in
-    let body_is = body_at text c.args.start c.args.table.table_head_len c.requires.head in
     let old = c.args.tree.now in
-    let names = names_of c.parse_table.new.allocs in
-    let ix = c.in_ok-index.index in
-    let alignments = c.args.table.alignments.items in
-    let there = open_are_in old.nodes old.spine c.recall_forest.ensures.opened in
-    table_text text c.args.source.now.options names c.args.start (c.args.start + c.args.table.table_head_len) c.in_ok-next.next ix alignments old
-    c.parse_table.new.tree (rows_read c) there
-    (named_yet c) body_is c.requires.headed marker
+    table_text _ _ _ _ _ _ c.in_ok-index.index c.args.table.alignments.items old _ (rows_read c)
+    (open_are_in old.nodes old.spine c.recall_forest.ensures.opened) (named_yet c)
+    (body_at c.args.source.now.text.now c.args.start c.args.table.table_head_len c.requires.head) c.requires.headed marker
 
 pub returns-clause-fits : goal.returns-clause-fits
 returns-clause-fits c = λ from low.
-    let text = c.args.source.now.text.now in
-    let body_is = body_at text c.args.start c.args.table.table_head_len c.requires.head in
-    let utf8 = c.requires.utf8 in
     let old = c.args.tree.now in
-    let names = names_of c.parse_table.new.allocs in
-    let ix = c.in_ok-index.index in
-    let alignments = c.args.table.alignments.items in
-    let there = open_are_in old.nodes old.spine c.recall_forest.ensures.opened in
-    table_between text c.args.source.now.options names c.args.start (c.args.start + c.args.table.table_head_len) c.in_ok-next.next ix alignments old
-    c.parse_table.new.tree (rows_read c) there
-    (named_yet c) body_is c.requires.headed (extends_none names) utf8 c.requires.boundary from low
+    table_between _ _ _ _ _ _ c.in_ok-index.index c.args.table.alignments.items old _ (rows_read c)
+    (open_are_in old.nodes old.spine c.recall_forest.ensures.opened) (named_yet c)
+    (body_at c.args.source.now.text.now c.args.start c.args.table.table_head_len c.requires.head) c.requires.headed (extends_none _) c.requires.utf8
+    c.requires.boundary from low

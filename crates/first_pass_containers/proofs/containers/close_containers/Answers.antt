@@ -27,12 +27,7 @@ unfolding all_popped
 none_popped n at r none = ap (λ k. all_popped k at r) none
 
 pub loop-state-init : goal.loop-state-init
-loop-state-init c = record {
-  value = refl;
-  closed = closed_none c.args.state.now c.args.kept c.args.ix c.requires;
-  kept = state_kept c.args.state.now c.args.ix;
-  all_kept = λ all. refl;
-}
+loop-state-init c = grind (arith, closed_none, state_kept)
 
 pub loop-state-preserved : goal.loop-state-preserved
 loop-state-preserved c =
@@ -50,14 +45,7 @@ loop-state-preserved c =
     }
 
 pub loop-state-smaller : goal.loop-state-smaller
-loop-state-smaller c =
-    let n = c.spine_len.ensures in
-    let more = c.loop-state-test.true in
-    (closed_one _ _ _ c.args.kept c.args.ix c.recall_forest.ensures c.pop.ensures (omega arith) c.loop-state.invariant.closed).1
+loop-state-smaller c = grind (arith, closed_one)
 
 pub returns-clause-value : goal.returns-clause-value
-returns-clause-value c =
-    let i = c.loop-state.invariant in
-    let n = c.spine_len.ensures in
-    let done = c.loop-state-test.false in
-    sym (none_popped _ c.args.ix _ (omega arith)) ∙ i.value
+returns-clause-value c = grind (arith, none_popped)

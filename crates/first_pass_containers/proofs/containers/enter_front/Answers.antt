@@ -1,7 +1,6 @@
-use Rattle.std.proofs.Common.{◌≡◌, inl, ℕ, ◌+◌, Bool, true, false, drop, Option, Some, None, if◌then◌else◌, is_some, IsUtf8, refl, sym, ap, subst, ◌∙◌}
-use Rattle.std.proofs.Common.{arith, inr}
-use Rattle.first_pass_grammar.proofs.Common.{blank_len, line_len, Rest, Place, line_rest, place_at, Document, document, Names, Tables, Options}
-use Rattle.first_pass_grammar.proofs.Common.{in_old_footnote}
+use Rattle.std.proofs.Common.{◌≡◌, inl, ℕ, ◌+◌, Bool, true, false, drop, Option, Some, None, if◌then◌else◌, is_some, IsUtf8, refl, sym, ap, subst, ◌∙◌, arith}
+use Rattle.std.proofs.Common.{inr}
+use Rattle.first_pass_grammar.proofs.Common.{blank_len, line_len, Rest, Place, place_at, Document, document, Names, Tables, Options, in_old_footnote}
 use Rattle.first_pass_open.proofs.FrontLemmas.{front_is}
 use Rattle.first_pass_lists.specs.Closing.{footnote_ended}
 use Rattle.first_pass_lists.specs.declared.state.PassState.{PassState}
@@ -33,10 +32,7 @@ ended_kept options e r = elim (ended_as options e r) [
 -- without a counting blank line, nothing ends if a footnote definition in the old form is innermost
 ended_unblank : (options : Options) (e : ℕ) (old closed : PassState) → (in_old_footnote (path_of options old.tree) ≡ true → old.blank ≡ false)
     → closed ≡ old → footnote_ended options e closed ≡ old
-ended_unblank options e old closed none same = rw same (elim (ended_as options e old) [
-  | inl stays ↦ stays.0
-  | inr left ↦ (let both = sym left.2 ∙ none (in_old options old left.1 left.3) in cc)
-])
+ended_unblank options e old closed none same = grind (arith, ended_as, in_old)
 
 -- ---- the line that is entered
 
@@ -70,12 +66,7 @@ entered_by start r t = if t then None else Some (place_at start r)
 -- that rest is the front of the line
 entered_is : (c : After-is_some) (t : Bool) → c.is_some.result ≡ t
     → entered_by c.args.start_ix (left c) t ≡ place_entered c.args.source.now c.args.state.now.tree c.args.start_ix
-entered_is c t is =
-    let source = c.args.source.now in
-    let f = c.args.state.now.tree in
-    ap (entered_by c.args.start_ix (left c)) (sym (blank c ∙ is))
-    ∙ ap (λ (r : Rest). entered_by c.args.start_ix r (is_some (blank_len r.left))) (sym (front_is source.options f.nodes f.spine c.args.continued
-    (line_rest (drop c.args.start_ix source.text.now)) (left c) c.requires.front.within c.requires.front.taken c.requires.front.stops))
+entered_is c t is = grind (arith, blank, front_is)
 
 pub returns-then-is_some-clause-value : goal.returns-then-is_some-clause-value
 returns-then-is_some-clause-value c = entered_is (goal.at.returns-then-is_some-clause-value c).After-is_some true c.if-is_some.true

@@ -1,11 +1,10 @@
-use Rattle.std.proofs.Common.{rules, ℕ, ◌+◌, List, true, OnErr, sym, ap, subst, ◌∙◌}
-use Rattle.first_pass_grammar.proofs.Common.{line_rest, in_table, prefix_crossed}
+use Rattle.std.proofs.Common.{rules, ◌+◌, true, sym, ap, ◌∙◌}
+use Rattle.first_pass_grammar.proofs.Common.{line_rest, prefix_crossed}
 use Rattle.std.proofs.lemmas.Result.{on_err_weaker}
 use Rattle.first_pass_open.specs.Path.{context_of}
 use Rattle.first_pass_kinds.specs.Memory.{line_may_head_table}
-use Rattle.first_pass_definitions.specs.Memory.{LabelAsks}
 use Rattle.first_pass_definitions.proofs.Asks.{label_asks, place_from}
-use Rattle.first_pass_definitions.proofs.Places.{label_fits}
+use Rattle.first_pass_definitions.proofs.Spaces.{label_fits}
 use Rattle.first_pass_definitions.proofs.label.parse_refdef_label.Goals as goal
 
 pub returns-clause-fits : goal.returns-clause-fits
@@ -18,8 +17,7 @@ returns-clause-err c =
     let text = c.args.source.now.text.now in
     let around = context_of c.args.source.now.options c.args.tree.now in
     let bs = c.range_from.result.now in
-    subst (λ (xs : List ℕ). OnErr c.scan_link_label_rest.result (LabelAsks around (in_table c.args.tree.now.nodes c.args.tree.now.spine) xs))
-    c.range_from.ensures.value
+    rw (← c.range_from.ensures.value)
     (on_err_weaker c.scan_link_label_rest.result (λ f. label_asks around (prefix_crossed true around) _ _ bs _ c.is_in_table-in_table.ensures
     (f (prefix_crossed true around) (λ following answer at b e p.
     let there = place_from text following.now bs c.args.start at c.requires c.range_from.ensures.value b e in

@@ -1,13 +1,10 @@
 use Rattle.std.proofs.Common.{◌≡◌, ℕ, ◌+◌, true, false, List, drop, Some, is_some, IsUtf8, IsCharBoundary, sym, ap, subst, ◌∙◌}
 use Rattle.first_pass_grammar.proofs.Common.{prefix_len, is_white, eol_len, at_line_end}
+use Rattle.first_pass_links.proofs.Parts.{of_text}
 use Rattle.first_pass_open.specs.Path.{context_of}
-use Rattle.first_pass_definitions.proofs.Spaces.{white_past, eol_after, place_white, space_plain, space_stops, crossed_space, space_over}
+use Rattle.first_pass_definitions.proofs.Spaces.{white_past, eol_after, space_plain, space_stops, crossed_space, space_over}
 use Rattle.first_pass_definitions.proofs.space.scan_refdef_space.Goals as goal
 use Rattle.first_pass_definitions.proofs.space.scan_refdef_space.Goals.{After-scan_eol, After-is_some}
-
--- a result for the rest of a slice that is the text is one for the rest of the text
-of_text : {A : Type 0} (f : List ℕ → A) (text bytes rest : List ℕ) (s : ℕ) (x : A) → x ≡ f rest → rest ≡ drop s bytes → bytes ≡ text → x ≡ f (drop s text)
-of_text f text bytes rest s x h i j = h ∙ ap f (i ∙ ap (drop s) j)
 
 module _ (g : After-scan_eol) where
   abbrev text : List ℕ
@@ -17,17 +14,13 @@ module _ (g : After-scan_eol) where
   is_text = subst IsUtf8 g.as_bytes-bytes.ensures.value g.as_bytes-bytes.ensures.utf8
 
   white_is : g.scan_whitespace_no_nl.result ≡ prefix_len is_white (drop g.args.start text)
-  white_is =
-      of_text (prefix_len is_white) g.args.source.now.text.now _ _ _ _ g.scan_whitespace_no_nl.ensures.value g.rest_of.ensures.value
-      g.as_bytes-bytes.ensures.value
+  white_is = of_text (prefix_len is_white) _ g.scan_whitespace_no_nl.ensures.value g.rest_of.ensures.value g.as_bytes-bytes.ensures.value
 
   eol_is : g.scan_eol.result ≡ eol_len (drop (g.args.start + g.scan_whitespace_no_nl.result) text)
-  eol_is = of_text eol_len g.args.source.now.text.now _ _ _ _ g.scan_eol.ensures.value g.rest_of-2.ensures.value g.as_bytes-bytes.ensures.value
+  eol_is = of_text eol_len _ g.scan_eol.ensures.value g.rest_of-2.ensures.value g.as_bytes-bytes.ensures.value
 
   white_place : IsCharBoundary text (g.args.start + g.scan_whitespace_no_nl.result)
-  white_place =
-      subst (λ n. IsCharBoundary g.args.source.now.text.now (g.args.start + n)) (sym white_is)
-      (white_past g.args.source.now.text.now g.args.start is_text g.requires)
+  white_place = subst (λ n. IsCharBoundary text (g.args.start + n)) (sym white_is) (white_past text g.args.start is_text g.requires)
 
 pub returns-in_default-clause-value : goal.returns-in_default-clause-value
 returns-in_default-clause-value c =
@@ -47,36 +40,31 @@ pub returns-in_default-2-clause-value : goal.returns-in_default-2-clause-value
 returns-in_default-2-clause-value c =
     let at = (goal.at.returns-in_default-2-clause-value c).After-scan_eol in
     space_stops (context_of c.args.source.now.options c.args.tree.now) c.args.source.now.text.now c.args.start c.scan_whitespace_no_nl.result c.in-Some.line_end
-    (white_is at)
-    (sym (eol_is at) ∙ c.in-Some.is)
-    (sym c.in_default-2.is ∙ c.in_ok-rest.ensures.value)
+    (white_is at) (sym (eol_is at) ∙ c.in-Some.is) (sym c.in_default-2.is ∙ c.in_ok-rest.ensures.value)
 
 module _ (g : After-is_some) where
-  past_is : g.scan_whitespace_no_nl-2.result ≡ prefix_len is_white (drop (g.args.start + g.scan_whitespace_no_nl.result + g.in-Some.line_end +
-      g.in-Some-2.rest.taken) g.args.source.now.text.now)
-  past_is =
-      of_text (prefix_len is_white) g.args.source.now.text.now _ _ _ _ g.scan_whitespace_no_nl-2.ensures.value g.rest_of-3.ensures.value
-      g.as_bytes-bytes.ensures.value
-      ∙ ap (λ k. prefix_len is_white (drop (g.args.start + g.scan_whitespace_no_nl.result + g.in-Some.line_end + k) g.args.source.now.text.now))
-      g.bytes_scanned.ensures
+  abbrev bytes : List ℕ
+  bytes = g.args.source.now.text.now
 
-  ends_is : is_some g.scan_eol-2.result ≡ at_line_end (drop (g.args.start + g.scan_whitespace_no_nl.result + g.in-Some.line_end + g.in-Some-2.rest.taken +
-      g.scan_whitespace_no_nl-2.result) g.args.source.now.text.now)
-  ends_is =
-      ap is_some (of_text eol_len g.args.source.now.text.now _ _ _ _ g.scan_eol-2.ensures.value g.rest_of-4.ensures.value g.as_bytes-bytes.ensures.value)
-      ∙ ap (λ k. at_line_end (drop (g.args.start + g.scan_whitespace_no_nl.result + g.in-Some.line_end + k + g.scan_whitespace_no_nl-2.result)
-      g.args.source.now.text.now)) g.bytes_scanned.ensures
+  abbrev next : ℕ
+  next = g.args.start + g.scan_whitespace_no_nl.result + g.in-Some.line_end
+
+  past_is : g.scan_whitespace_no_nl-2.result ≡ prefix_len is_white (drop (next + g.in-Some-2.rest.taken) bytes)
+  past_is = of_text (prefix_len is_white) _ g.scan_whitespace_no_nl-2.ensures.value g.rest_of-3.ensures.value g.as_bytes-bytes.ensures.value
+      ∙ ap (λ k. prefix_len is_white (drop (next + k) bytes)) g.bytes_scanned.ensures
+
+  ends_is : is_some g.scan_eol-2.result ≡ at_line_end (drop (next + g.in-Some-2.rest.taken + g.scan_whitespace_no_nl-2.result) bytes)
+  ends_is = ap is_some (of_text eol_len _ g.scan_eol-2.ensures.value g.rest_of-4.ensures.value g.as_bytes-bytes.ensures.value)
+      ∙ ap (λ k. at_line_end (drop (next + k + g.scan_whitespace_no_nl-2.result) bytes)) g.bytes_scanned.ensures
 
 pub returns-then-is_some-clause-value : goal.returns-then-is_some-clause-value
 returns-then-is_some-clause-value c =
     let at = (goal.at.returns-then-is_some-clause-value c).After-scan_eol in
     let last = (goal.at.returns-then-is_some-clause-value c).After-is_some in
     space_over true (context_of c.args.source.now.options c.args.tree.now) c.args.source.now.text.now c.args.start c.scan_whitespace_no_nl.result
-    c.in-Some.line_end
-    c.scan_whitespace_no_nl-2.result c.in-Some-2.rest
+    c.in-Some.line_end c.scan_whitespace_no_nl-2.result c.in-Some-2.rest
     (crossed_space _ _ _ _ _ (Some c.in-Some-2.rest) (white_is at) (sym (eol_is at) ∙ c.in-Some.is) (sym c.in-Some-2.is ∙ c.in_ok-rest.ensures.value))
-    (past_is last)
-    (sym (ends_is last) ∙ sym c.is_some.ensures ∙ c.if-is_some.true)
+    (past_is last) (sym (ends_is last) ∙ sym c.is_some.ensures ∙ c.if-is_some.true)
 
 pub returns-clause-value : goal.returns-clause-value
 returns-clause-value c =
@@ -84,17 +72,13 @@ returns-clause-value c =
     let last = (goal.at.returns-clause-value c).After-is_some in
     ap (λ k. Some (c.args.start + c.scan_whitespace_no_nl.result + c.in-Some.line_end + k + c.scan_whitespace_no_nl-2.result, 1)) c.bytes_scanned.ensures
     ∙ space_over false (context_of c.args.source.now.options c.args.tree.now) c.args.source.now.text.now c.args.start c.scan_whitespace_no_nl.result
-    c.in-Some.line_end
-    c.scan_whitespace_no_nl-2.result c.in-Some-2.rest
+    c.in-Some.line_end c.scan_whitespace_no_nl-2.result c.in-Some-2.rest
     (crossed_space _ _ _ _ _ (Some c.in-Some-2.rest) (white_is at) (sym (eol_is at) ∙ c.in-Some.is) (sym c.in-Some-2.is ∙ c.in_ok-rest.ensures.value))
-    (past_is last)
-    (sym (ends_is last) ∙ sym c.is_some.ensures ∙ c.if-is_some.false)
+    (past_is last) (sym (ends_is last) ∙ sym c.is_some.ensures ∙ c.if-is_some.false)
 
 pub returns-clause-place : goal.returns-clause-place
 returns-clause-place c =
     let at = (goal.at.returns-clause-place c).After-scan_eol in
     let last = (goal.at.returns-clause-place c).After-is_some in
-    let place = rw c.in-Some-2.is at c.in_ok-rest.ensures.place in
-    subst (λ k. IsCharBoundary c.args.source.now.text.now (c.args.start + c.scan_whitespace_no_nl.result + c.in-Some.line_end + k +
-    c.scan_whitespace_no_nl-2.result)) (sym c.bytes_scanned.ensures)
-    (place_white c.args.source.now.text.now _ c.scan_whitespace_no_nl-2.result c.in-Some-2.rest (is_text at) place (past_is last))
+    rw (c.bytes_scanned.ensures, past_is last)
+    (white_past c.args.source.now.text.now _ (is_text at) (rw c.in-Some-2.is at c.in_ok-rest.ensures.place).boundary)

@@ -1,38 +1,38 @@
-use Rattle.std.proofs.Common.{◌≡◌, ◌+◌, inl, inr, drop, refl, sym, subst, ◌∙◌, arith}
-use Rattle.first_pass_grammar.proofs.Common.{on_err, space_at, target_at, unescaped, none_mapped}
+use Rattle.std.proofs.Common.{◌≡◌, ◌+◌, inl, inr, refl, sym, subst, ◌∙◌, arith}
+use Rattle.first_pass_grammar.proofs.Common.{on_err, target_at, unescaped, none_mapped}
 use Rattle.first_pass_open.specs.Path.{context_of}
-use Rattle.first_pass_definitions.specs.Found.{IsUnescaped, HasTitle}
-use Rattle.first_pass_definitions.proofs.Targets.{TargetFound, no_dest, no_further, space_found, target_found, placed, placed_by, is_target}
+use Rattle.first_pass_definitions.proofs.Targets.{DestRead, dest_read, TargetFound, no_dest, no_further, space_found, target_found, placed, placed_by}
+use Rattle.first_pass_definitions.proofs.Targets.{is_target}
 use Rattle.first_pass_definitions.proofs.Asks.{dest_asks, parts_ask}
 use Rattle.first_pass_definitions.proofs.target.scan_refdef.Goals as goal
-use Rattle.first_pass_definitions.proofs.target.scan_refdef.Goals.{In-Some-2}
+use Rattle.first_pass_definitions.proofs.target.scan_refdef.Goals.{In-Some-scan_link_dest, In-Some-2}
 
 pub returns-in_default-clause-value : goal.returns-in_default-clause-value
 unfolding target_at
-returns-in_default-clause-value c =
-    rw (none_mapped _ (space_at (context_of c.args.source.now.options c.args.tree.now) (drop c.args.start c.args.source.now.text.now))
-    (sym c.in_default.is ∙ c.in_ok-dest_start.ensures.value)) refl
+returns-in_default-clause-value c = grind (arith, none_mapped)
 
 pub returns-in_default-scan_link_dest-clause-value : goal.returns-in_default-scan_link_dest-clause-value
 returns-in_default-scan_link_dest-clause-value c =
     rw (no_dest (context_of c.args.source.now.options c.args.tree.now) c.args.source.now.text.now c.args.start c.in-Some.dest_start c.in-Some.field-0-1
     (sym c.in-Some.is ∙ c.in_ok-dest_start.ensures.value) c.in_default-scan_link_dest.ensures.value) refl
 
+-- the destination is read
+read : (c : In-Some-scan_link_dest) → DestRead (context_of c.args.source.now.options c.args.tree.now) c.args.source.now.text.now c.args.start
+    c.in-Some.dest_start c.in-Some-scan_link_dest.dest_len c.in-Some-scan_link_dest.dest
+read c = dest_read _ _ _ _ c.in-Some.field-0-1 _ _ (sym c.in-Some.is ∙ c.in_ok-dest_start.ensures.value) c.in-Some-scan_link_dest.ensures.value
+
 pub returns-in_default-2-clause-value : goal.returns-in_default-2-clause-value
 returns-in_default-2-clause-value c =
-    rw (no_further (context_of c.args.source.now.options c.args.tree.now) c.args.source.now.text.now c.args.start c.in-Some.dest_start c.in-Some.field-0-1
-    c.in-Some-scan_link_dest.dest_len c.in-Some-scan_link_dest.dest
-    (sym c.in-Some.is ∙ c.in_ok-dest_start.ensures.value) c.in-Some-scan_link_dest.ensures.value
-    (rw c.in_default-2.is at c.in_ok-title_start.ensures.value)) refl
+    rw (no_further (read (goal.at.returns-in_default-2-clause-value c).In-Some-scan_link_dest) (rw c.in_default-2.is at c.in_ok-title_start.ensures.value)) refl
 
 -- the parts of the target are found
 found : (c : In-Some-2) → TargetFound (context_of c.args.source.now.options c.args.tree.now) c.args.source.now.text.now c.args.start
     (c.in-Some-2.end, placed c.args.start c.in-Some.dest_start (c.in-Some.dest_start + c.in-Some-scan_link_dest.dest_len) c.in-Some-2.title_start)
     c.in-Some-scan_link_dest.dest c.in-Some-2.title
 found c =
-    target_found (context_of c.args.source.now.options c.args.tree.now) c.args.source.now.text.now c.args.start c.in-Some.dest_start c.in-Some.field-0-1
-    c.in-Some-scan_link_dest.dest_len c.in-Some-scan_link_dest.dest (c.in-Some-2.title_start, c.in-Some-2.end, c.in-Some-2.title)
-    (sym c.in-Some.is ∙ c.in_ok-dest_start.ensures.value) c.in-Some-scan_link_dest.ensures.value (rw c.in-Some-2.is at c.in_ok-title_start.ensures.value)
+    target_found (c.in-Some-2.title_start, c.in-Some-2.end, c.in-Some-2.title)
+    (dest_read _ _ _ _ c.in-Some.field-0-1 _ _ (sym c.in-Some.is ∙ c.in_ok-dest_start.ensures.value) c.in-Some-scan_link_dest.ensures.value)
+    (rw c.in-Some-2.is at c.in_ok-title_start.ensures.value)
 
 pub returns-clause-value : goal.returns-clause-value
 returns-clause-value c =
@@ -44,18 +44,13 @@ returns-clause-value c =
     (subst (λ places. TargetFound around text start (c.in-Some-2.end, places) c.in-Some-scan_link_dest.dest c.in-Some-2.title)
     (sym (placed_by start at (at + c.in-Some-scan_link_dest.dest_len) c.in-Some-2.title_start _ c.saturating_sub.ensures))
     (found (goal.at.returns-clause-value c).In-Some-2))
-    (subst (λ nested. IsUnescaped nested c.in-Some-scan_link_dest.dest.now c.in_ok-unescape.field-0) c.is_in_table-in_table.ensures
-    (record { value = c.in_ok-unescape.ensures.value; borrowed = c.in_ok-unescape.ensures.borrowed }))
-    (λ text read. subst (λ nested. HasTitle nested text c.in_ok-unescape_title.field-0) c.is_in_table-in_table.ensures
-    (c.in_ok-unescape_title.ensures.value text read))
-    refl
+    (rw (← c.is_in_table-in_table.ensures) (record { value = c.in_ok-unescape.ensures.value; borrowed = c.in_ok-unescape.ensures.borrowed }))
+    (λ text read. rw (← c.is_in_table-in_table.ensures) (c.in_ok-unescape_title.ensures.value text read)) refl
 
 pub returns-in_err-title_start-clause-err : goal.returns-in_err-title_start-clause-err
 returns-in_err-title_start-clause-err c =
     on_err c.from_residual-in_err-title_start.result
-    (inr (inl (dest_asks (context_of c.args.source.now.options c.args.tree.now) c.args.source.now.text.now c.args.start c.in-Some.dest_start c.in-Some.field-0-1
-    c.in-Some-scan_link_dest.dest_len c.in-Some-scan_link_dest.dest
-    (sym c.in-Some.is ∙ c.in_ok-dest_start.ensures.value) c.in-Some-scan_link_dest.ensures.value c.in_err-title_start.ensures.err)))
+    (inr (inl (dest_asks (read (goal.at.returns-in_err-title_start-clause-err c).In-Some-scan_link_dest) c.in_err-title_start.ensures.err)))
 
 pub returns-in_err-unescape-clause-err : goal.returns-in_err-unescape-clause-err
 returns-in_err-unescape-clause-err c =
@@ -75,18 +70,4 @@ returns-in_err-unescape_title-clause-err c =
     c.is_in_table-in_table.ensures t (inr (c.in_err-unescape_title.ensures.err t.target.title t.title_is)))))
 
 pub returns-clause-places : goal.returns-clause-places
-returns-clause-places c =
-    let text = c.args.source.now.text.now in
-    let space = space_found (space_at (context_of c.args.source.now.options c.args.tree.now) (drop c.args.start text)) c.args.start c.in-Some.dest_start
-    c.in-Some.field-0-1 (sym c.in-Some.is ∙ c.in_ok-dest_start.ensures.value) in
-    let there = space.2 in
-    let fits = rw c.in-Some-2.is at c.in_ok-title_start.ensures.fits in
-    record {
-      dest = omega arith;
-      following = omega arith;
-      title = fits.0;
-      within = fits.1;
-      dest_boundary = rw c.in-Some.is at c.in_ok-dest_start.ensures.place;
-      after_boundary = c.in-Some-scan_link_dest.ensures.following;
-      title_boundary = fits.2;
-    }
+returns-clause-places c = grind (arith, space_found)

@@ -1,7 +1,7 @@
-use Rattle.std.proofs.Common.{◌≡◌, ℕ, ◌-◌, length, drop, IsCharBoundary, sym, ap, subst, ◌∙◌, arith}
+use Rattle.std.proofs.Common.{◌≡◌, ℕ, ◌-◌, length, drop, IsCharBoundary, sym, ap, ◌∙◌, arith}
 use Rattle.first_pass_grammar.proofs.Common.{none_is, blank_len, Rest, place_at, IsPlaceOf, all_taken}
 use Rattle.first_pass_open.proofs.PlaceLemmas.{all_keep}
-use Rattle.first_pass_definitions.proofs.Places.{rest_place}
+use Rattle.first_pass_definitions.proofs.Spaces.{rest_place}
 use Rattle.first_pass_definitions.proofs.title.scan_title_prefix.Goals as goal
 use Rattle.first_pass_definitions.proofs.title.scan_title_prefix.Goals.{After-bytes_scanned}
 
@@ -20,8 +20,7 @@ taken_is c = c.bytes_scanned.ensures ∙ ap (λ (r : Rest). r.taken) c.scan_all_
 
 pub returns-clause-place : goal.returns-clause-place
 returns-clause-place c =
-    let at = (goal.at.returns-clause-place c).After-bytes_scanned in
-    subst (IsCharBoundary c.args.bytes.now) (sym (taken_is at)) (text_place at).1
+    let at = (goal.at.returns-clause-place c).After-bytes_scanned in rw (taken_is at) (text_place at).1
 
 pub returns-clause-text : goal.returns-clause-text
 returns-clause-text c =

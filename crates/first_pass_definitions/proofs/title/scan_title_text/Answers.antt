@@ -1,14 +1,14 @@
-use Rattle.std.proofs.Common.{◌≡◌, ℕ, ◌+◌, ◌<◌, false, true, List, ◌++◌, ◌∷◌, [], Some, length, drop, IsCharBoundary, refl, sym, ap, subst, ◌∙◌, arith}
+use Rattle.std.proofs.Common.{◌≡◌, ℕ, ◌+◌, ◌<◌, false, true, ◌++◌, ◌∷◌, [], Some, length, drop, IsCharBoundary, refl, sym, ap, ◌∙◌, arith}
 use Rattle.std.proofs.Common.{string_bytes}
-use Rattle.first_pass_grammar.proofs.Common.{list_any, IsCharBoundary-start, IsCharBoundary-after_ascii, line_feed, on_err, is_line_end, begins, eol_len}
-use Rattle.first_pass_grammar.proofs.Common.{unescaped_upto, first_byte, title_prefix, option_map_or, line_rest}
+use Rattle.first_pass_grammar.proofs.Common.{list_any, IsCharBoundary-start, IsCharBoundary-after_ascii, line_feed, on_err, is_line_end, begins}
+use Rattle.first_pass_grammar.proofs.Common.{unescaped_upto, first_byte, title_prefix}
 use Rattle.std.proofs.lemmas.Str.{encode_ascii}
 use Rattle.first_pass_links.specs.Units.{part}
+use Rattle.first_pass_links.proofs.Parts.{of_text}
 use Rattle.first_pass_open.specs.Path.{context_of}
 use Rattle.first_pass_definitions.specs.Reading.{stops_title_line, goes_on_at}
-use Rattle.first_pass_kinds.specs.Memory.{line_may_head_table}
 use Rattle.first_pass_definitions.proofs.Titles.{TitleLine, after_nothing, whole_title, stop_place, title_found, no_title, title_further, any_last, closes-low}
-use Rattle.first_pass_definitions.proofs.Asks.{goes_asks, meets_asks}
+use Rattle.first_pass_definitions.proofs.Asks.{asks_at, goes_asks, table_asks}
 use Rattle.first_pass_definitions.proofs.title.scan_title_text.Goals as goal
 use Rattle.first_pass_definitions.proofs.title.scan_title_text.Goals.{After-begins, In-Some}
 
@@ -28,14 +28,11 @@ line_stops : (c : After-begins)
     → c.loop-bytes.from + c.scan_title_line.result
     ≡ c.loop-bytes.from + unescaped_upto (stops_title_line c.args.close) 0 (drop c.loop-bytes.from c.args.text.now)
 line_stops c =
-    ap (λ k. c.loop-bytes.from + k) (c.scan_title_line.ensures.value
-    ∙ ap (unescaped_upto (stops_title_line c.args.close) 0) (c.rest_of.ensures.value ∙ ap (drop c.loop-bytes.from) c.as_bytes-bytes.ensures.value))
+    ap (λ k. c.loop-bytes.from + k) (of_text (unescaped_upto (stops_title_line c.args.close) 0) _ c.scan_title_line.ensures.value c.rest_of.ensures.value
+    c.as_bytes-bytes.ensures.value)
 
 stop_is : (c : After-begins) → c.begins.result ≡ begins c.args.close (drop (c.loop-bytes.from + c.scan_title_line.result) c.args.text.now)
-stop_is c =
-    c.begins.ensures.value
-    ∙ ap (begins c.args.close) (c.rest_of-in-loop-bytes.ensures.value ∙ ap (drop (c.loop-bytes.from + c.scan_title_line.result))
-    c.as_bytes-bytes.ensures.value)
+stop_is c = of_text (begins c.args.close) _ c.begins.ensures.value c.rest_of-in-loop-bytes.ensures.value c.as_bytes-bytes.ensures.value
 
 stop_at : (c : After-begins) → IsCharBoundary c.args.text.now (c.loop-bytes.from + c.scan_title_line.result)
 stop_at c =
@@ -52,9 +49,7 @@ line_of c = record { closes = c.requires.close; title = c.loop-bytes.invariant.t
 pub returns-then-begins-clause-value : goal.returns-then-begins-clause-value
 returns-then-begins-clause-value c =
     let at = (goal.at.returns-then-begins-clause-value c).After-begins in
-    rw (title_found (title_prefix (context_of c.args.source.now.options c.args.tree.now)) c.args.close c.loop-bytes.from
-    (c.loop-bytes.from + c.scan_title_line.result)
-    (string_bytes c.loop-bytes.written) c.args.text.now (line_of at) (sym (stop_is at) ∙ c.if-begins.true)) (refl, c.in_ok-finish.ensures.value)
+    rw (title_found (line_of at) (sym (stop_is at) ∙ c.if-begins.true)) (refl, c.in_ok-finish.ensures.value)
 
 pub returns-then-begins-clause-fits : goal.returns-then-begins-clause-fits
 returns-then-begins-clause-fits c =
@@ -65,37 +60,29 @@ returns-then-begins-clause-fits c =
 
 pub scan_title_break-requires-clause-at : goal.scan_title_break-requires-clause-at
 scan_title_break-requires-clause-at c =
-    subst (λ xs. IsCharBoundary xs (c.loop-bytes.from + c.scan_title_line.result)) (sym c.as_bytes-bytes.ensures.value)
-    (stop_at (goal.at.scan_title_break-requires-clause-at c).After-begins)
+    rw c.as_bytes-bytes.ensures.value (stop_at (goal.at.scan_title_break-requires-clause-at c).After-begins)
 
 pub returns-in_default-clause-value : goal.returns-in_default-clause-value
 returns-in_default-clause-value c =
     let at = (goal.at.returns-in_default-clause-value c).After-begins in
-    let k = sym c.in_default.is ∙ c.in_ok-next.ensures.value ∙ ap (λ xs. goes_on_at (title_prefix (context_of c.args.source.now.options c.args.tree.now)) xs
-    (c.loop-bytes.from + c.scan_title_line.result)) c.as_bytes-bytes.ensures.value in
-    rw (no_title (title_prefix (context_of c.args.source.now.options c.args.tree.now)) c.args.close c.loop-bytes.from
-    (c.loop-bytes.from + c.scan_title_line.result)
-    (string_bytes c.loop-bytes.written) c.args.text.now (line_of at) (sym (stop_is at) ∙ c.if-begins.false) k) refl
+    rw (no_title (line_of at) (sym (stop_is at) ∙ c.if-begins.false)
+    (rw c.as_bytes-bytes.ensures.value at (sym c.in_default.is ∙ c.in_ok-next.ensures.value))) refl
 
 -- the offset at which the title continues after a line ending
 next_is : (c : In-Some) → Some c.in-Some.next
     ≡ goes_on_at (title_prefix (context_of c.args.source.now.options c.args.tree.now)) c.args.text.now (c.loop-bytes.from + c.scan_title_line.result)
-next_is c =
-    sym c.in-Some.is ∙ c.in_ok-next.ensures.value
-    ∙ ap (λ xs. goes_on_at (title_prefix (context_of c.args.source.now.options c.args.tree.now)) xs (c.loop-bytes.from + c.scan_title_line.result))
-    c.as_bytes-bytes.ensures.value
+next_is c = rw c.as_bytes-bytes.ensures.value at (sym c.in-Some.is ∙ c.in_ok-next.ensures.value)
 
 pub loop-bytes-preserved : goal.loop-bytes-preserved
 loop-bytes-preserved c =
     let at = (goal.at.loop-bytes-preserved c).After-begins in
     let text = c.args.text.now in
     let stop : ℕ = c.loop-bytes.from + c.scan_title_line.result in
-    let place : (stop < c.in-Some.next) × IsCharBoundary text c.in-Some.next = subst (λ xs. (stop < c.in-Some.next) × IsCharBoundary xs c.in-Some.next)
-    c.as_bytes-bytes.ensures.value (rw c.in-Some.is at c.in_ok-next.ensures.place) in
+    let place : (stop < c.in-Some.next) × IsCharBoundary text c.in-Some.next =
+    rw c.as_bytes-bytes.ensures.value at (rw c.in-Some.is at c.in_ok-next.ensures.place) in
     let inside = place.1.0 in
     let further = place.0 in
-    let plain : begins line_feed (drop c.in-Some.next text) ≡ false =
-    ap (λ xs. begins line_feed (drop c.in-Some.next xs)) (sym c.as_bytes-bytes.ensures.value) ∙ (rw c.in-Some.is at c.in_ok-next.ensures.texts) in
+    let plain = rw c.as_bytes-bytes.ensures.value at (rw c.in-Some.is at c.in_ok-next.ensures.texts) in
     let k = next_is (goal.at.loop-bytes-preserved c).In-Some in
     let written : string_bytes c.push.new.self ≡ (string_bytes c.loop-bytes.written ++ part text c.loop-bytes.from stop) ++ line_feed ∷ [] =
     c.in_ok-push.ensures.bytes ∙ ap (λ xs. string_bytes c.push_str.new.self ++ xs) (encode_ascii line_feed (omega arith))
@@ -107,8 +94,7 @@ loop-bytes-preserved c =
       lines = λ l. ap (list_any is_line_end) written ∙ any_last (string_bytes c.loop-bytes.written ++ part text c.loop-bytes.from stop);
       asked = λ l. goes_asks (context_of c.args.source.now.options c.args.tree.now) c.args.close c.loop-bytes.from stop c.in-Some.next text
           c.loop-bytes.invariant.asked (line_stops at) (sym k);
-      title = rw written (title_further (title_prefix (context_of c.args.source.now.options c.args.tree.now)) c.args.close c.loop-bytes.from stop
-          c.in-Some.next (string_bytes c.loop-bytes.written) text (line_of at) (omega arith) k plain);
+      title = rw written (title_further c.in-Some.next (line_of at) (omega arith) k plain);
     }
 
 -- the title continues over a line ending, or may
@@ -118,18 +104,11 @@ returns-in_err-next-clause-err c =
     let around = context_of c.args.source.now.options c.args.tree.now in
     let stop : ℕ = c.loop-bytes.from + c.scan_title_line.result in
     on_err c.from_residual-in_err-next.result
-    (meets_asks around c.args.close c.loop-bytes.from stop c.args.text.now c.loop-bytes.invariant.asked (line_stops at)
-    (subst (λ (bs : List ℕ). option_map_or (λ e. line_may_head_table around (line_rest (drop (stop + e) bs))) (eol_len (drop stop bs)) false ≡ true)
-    c.as_bytes-bytes.ensures.value c.in_err-next.ensures.err))
+    (asks_at around c.args.close c.loop-bytes.from stop c.args.text.now c.loop-bytes.invariant.asked (line_stops at)
+    (table_asks around c.args.text.now stop _ (rw c.as_bytes-bytes.ensures.value at c.in_err-next.ensures.err)))
 
 pub returns-in_err-push_str-clause-err : goal.returns-in_err-push_str-clause-err
-returns-in_err-push_str-clause-err c =
-    on_err c.from_residual-in_err-push_str.result (goes_asks (context_of c.args.source.now.options c.args.tree.now) c.args.close c.loop-bytes.from _
-    c.in-Some.next c.args.text.now c.loop-bytes.invariant.asked (line_stops (goal.at.returns-in_err-push_str-clause-err c).After-begins)
-    (sym (next_is (goal.at.returns-in_err-push_str-clause-err c).In-Some)))
+returns-in_err-push_str-clause-err c = grind (arith, on_err, goes_asks, line_stops, next_is)
 
 pub returns-in_err-push-clause-err : goal.returns-in_err-push-clause-err
-returns-in_err-push-clause-err c =
-    on_err c.from_residual-in_err-push.result (goes_asks (context_of c.args.source.now.options c.args.tree.now) c.args.close c.loop-bytes.from _
-    c.in-Some.next c.args.text.now c.loop-bytes.invariant.asked (line_stops (goal.at.returns-in_err-push-clause-err c).After-begins)
-    (sym (next_is (goal.at.returns-in_err-push-clause-err c).In-Some)))
+returns-in_err-push-clause-err c = grind (arith, on_err, goes_asks, line_stops, next_is)

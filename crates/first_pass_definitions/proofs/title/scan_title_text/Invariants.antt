@@ -13,8 +13,7 @@ invariant-loop-bytes l = record {
   lines : (0 < l.from) → (list_any is_line_end (string_bytes l.written) ≡ true);
   asked : (0 < l.from) → (text_asks (context_of l.source.options l.tree) l.close l.text ≡ true);
   title : after_text (string_bytes l.written) (title_of l.close (left_of (title_prefix (context_of l.source.options l.tree)) l.from (drop l.from l.text)))
-      ≡ title_text
-      (title_prefix (context_of l.source.options l.tree)) l.close l.text;
+      ≡ title_text (title_prefix (context_of l.source.options l.tree)) l.close l.text;
 }
 
 abbrev pub decreases-loop-bytes : goal.decreases-loop-bytes

@@ -1,5 +1,5 @@
 use Rattle.std.proofs.Common.{◌<◌, length, arith}
-use Rattle.first_pass_flat.proofs.Nexts.{next_passed, fewer_left, none_passed, some_here, first_passed}
+use Rattle.first_pass_flat.proofs.Nexts.{next_passed, none_passed, some_here, first_passed}
 use Rattle.first_pass_flat.proofs.nodes.next_index.Goals as goal
 
 pub returns-then-later_depth-depth-clause-value : goal.returns-then-later_depth-depth-clause-value
@@ -15,7 +15,7 @@ pub loop-at-init : goal.loop-at-init
 loop-at-init c = first_passed _ _ _ _ _ _ c.requires.later c.if-later_depth-depth.false c.requires.same c.requires.linked
 
 pub loop-at-preserved : goal.loop-at-preserved
-loop-at-preserved c = (next_passed _ _ _ _ _ _ _ c.loop-at-test.true c.requires.same c.if-depth-nodes.true c.requires.linked c.loop-at.invariant).1
+loop-at-preserved c = (next_passed _ _ _ _ _ _ _ c.loop-at-test.true c.requires.same c.if-depth-nodes.true c.requires.linked c.loop-at.invariant).0
 
 pub loop-at-smaller : goal.loop-at-smaller
-loop-at-smaller c = fewer_left _ _ _ _ _ _ _ c.loop-at-test.true c.requires.same c.if-depth-nodes.true c.requires.linked c.loop-at.invariant
+loop-at-smaller c = (next_passed _ _ _ _ _ _ _ c.loop-at-test.true c.requires.same c.if-depth-nodes.true c.requires.linked c.loop-at.invariant).1

@@ -35,5 +35,4 @@ loop-before-preserved c =
     }
 
 pub returns : goal.returns
-returns c =
-    sym (c.loop-before.invariant.none ∙ ap holds_raw_end_tag (sym c.rest_of.ensures.value) ∙ none_held c.rest_of.result.now c.in_default.ensures)
+returns c = grind (arith, none_held)

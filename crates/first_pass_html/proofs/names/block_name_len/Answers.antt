@@ -49,5 +49,4 @@ pub returns-in-117 : goal.returns-in-117
 returns-in-117 c = group_longest 117 _ _ _ _ c.in-len1-up.len_at_least c.to_ascii_lowercase.ensures.value c.in-117.is c.first_name_len-in-117.ensures refl
 
 pub returns-in_default-to_ascii_lowercase : goal.returns-in_default-to_ascii_lowercase
-returns-in_default-to_ascii_lowercase c =
-    other_longest c.args.bytes.now c.to_ascii_lowercase.result c.in-len1-up.len_at_least c.to_ascii_lowercase.ensures.value (grind (arith, nat_tests))
+returns-in_default-to_ascii_lowercase c = grind (arith, other_longest, nat_tests)

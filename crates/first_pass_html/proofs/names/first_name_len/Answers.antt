@@ -1,4 +1,4 @@
-use Rattle.std.proofs.Common.{◌≡◌, ℕ, ◌+◌, ◌<◌, Bool, true, false, List, length, map, cond, drop, get_or, Bor, sym, ap, ◌∙◌, add-one, drop-cons}
+use Rattle.std.proofs.Common.{◌≡◌, ℕ, ◌+◌, ◌<◌, Bool, true, false, List, length, map, cond, drop, get_or, Bor, sym, ap, ◌∙◌, add-one, drop-cons, arith}
 use Rattle.std.proofs.lemmas.List.{drop_all}
 use Rattle.first_pass_html.specs.Names.{borrowed_bytes, begins_with_name, first_name_len}
 use Rattle.first_pass_html.proofs.names.first_name_len.Goals as goal
@@ -23,5 +23,4 @@ loop-name-preserved c =
 
 pub returns : goal.returns
 unfolding first_name_len
-returns c = sym (c.loop-name.invariant
-    ∙ ap (λ names. first_name_len (map borrowed_bytes names) c.args.bytes.now) (drop_all c.loop-name.name-index c.args.known.now c.loop-name-test.false))
+returns c = grind (arith, drop_all)

@@ -1,12 +1,11 @@
-use Rattle.std.proofs.Common.{◌≡◌, ℕ, List, drop, sym, ap, ◌∙◌, subst}
+use Rattle.std.proofs.Common.{◌≡◌, ℕ, List, drop, sym, ap, ◌∙◌, subst, arith}
 use Rattle.first_pass_html.specs.TagLengths.{open_end_len}
 use Rattle.first_pass_html.specs.Fronts.{IsPastAttributes}
 use Rattle.first_pass_html.proofs.WholeTagFacts.{opening_found, opening_needs_end, opening_not_raw}
 use Rattle.first_pass_html.proofs.tags.scan_open_tag.Goals as goal
 
 pub returns-then-is_raw_name-clause-none : goal.returns-then-is_raw_name-clause-none
-returns-then-is_raw_name-clause-none c =
-    opening_not_raw c.args.bytes.now c.in_ok-name.name (sym c.in_ok-name.ensures.value) (sym c.if-is_raw_name.ensures.value)
+returns-then-is_raw_name-clause-none c = grind (arith, opening_not_raw)
 
 pub returns-in_err-end-clause-none : goal.returns-in_err-end-clause-none
 returns-in_err-end-clause-none c =

@@ -1,5 +1,5 @@
-use Rattle.std.proofs.Common.{◌≡◌, ℕ, true, List, ◌∷◌, drop, sym, ap, ◌∙◌}
-use Rattle.first_pass_items.specs.Bytes.{solidus, less_than}
+use Rattle.std.proofs.Common.{◌≡◌, ℕ, true, List, ◌∷◌, drop, sym, ap, ◌∙◌, arith}
+use Rattle.first_pass_items.specs.Bytes.{less_than}
 use Rattle.first_pass_lines.specs.Lines.{begins}
 use Rattle.first_pass_html.proofs.FrontFacts.{first_byte}
 use Rattle.first_pass_html.proofs.WholeTagFacts.{open_found, open_none, close_found, close_none, needs_bracket}
@@ -13,16 +13,10 @@ pub returns-then-not-begins-clause-none : goal.returns-then-not-begins-clause-no
 returns-then-not-begins-clause-none c = needs_bracket c.args.bytes.now (sym c.if-not-begins.ensures.value)
 
 pub returns-in_err-len-clause-none : goal.returns-in_err-len-clause-none
-returns-in_err-len-clause-none c =
-    let rest = whole less_than c.args.bytes.now c.rest_of-rest.result.now (sym c.if-not-begins.ensures.value) c.rest_of-rest.ensures.value in
-    let slash = whole solidus c.rest_of-rest.result.now c.rest_of.result.now (sym c.if-begins.ensures.value) c.rest_of.ensures.value in
-    rw c.from_residual.ensures (close_none c.args.bytes.now c.rest_of.result.now (rest ∙ ap (λ xs. less_than ∷ xs) slash) c.in_err-len.ensures.none)
+returns-in_err-len-clause-none c = grind (arith, whole, close_none)
 
 pub returns-then-begins-clause-found : goal.returns-then-begins-clause-found
-returns-then-begins-clause-found c =
-    let rest = whole less_than c.args.bytes.now c.rest_of-rest.result.now (sym c.if-not-begins.ensures.value) c.rest_of-rest.ensures.value in
-    let slash = whole solidus c.rest_of-rest.result.now c.rest_of.result.now (sym c.if-begins.ensures.value) c.rest_of.ensures.value in
-    close_found c.args.bytes.now c.rest_of.result.now c.in_ok-len.len (rest ∙ ap (λ xs. less_than ∷ xs) slash) c.in_ok-len.ensures.found
+returns-then-begins-clause-found c = grind (arith, whole, close_found)
 
 pub returns-in_err-len-2-clause-none : goal.returns-in_err-len-2-clause-none
 returns-in_err-len-2-clause-none c =

@@ -1,4 +1,4 @@
-use Rattle.std.proofs.Common.{◌+◌, Some, cond, ap, sym, refl, ◌∙◌, drop, get_or, is_eq}
+use Rattle.std.proofs.Common.{◌+◌, Some, cond, ap, sym, refl, ◌∙◌, drop, get_or, is_eq, arith}
 use Rattle.std.proofs.lemmas.List.{at_drop_more, drop_all, get_or_default}
 use Rattle.std.specs.BTreeMap.{is_at}
 use Rattle.std.specs.Map.{lookup}
@@ -28,6 +28,4 @@ loop-at-preserved g c =
     (ap is_eq (sym c.cmp.ensures) ∙ sym c.is_eq.ensures ∙ c.if-is_eq.false)
 
 pub returns : goal.returns
-returns g c =
-    let test = is_at (label_cmp c.args.key.now) in
-    sym (c.loop-at.invariant ∙ ap (lookup test) (drop_all c.loop-at.at c.args.entries.now c.loop-at-test.false))
+returns g c = grind (arith, drop_all)

@@ -1,26 +1,20 @@
-use Rattle.std.proofs.Common.{◌≡◌, ℕ, ◌==◌, true, false, sym, ap, ◌∙◌, arith, if◌then◌else◌}
+use Rattle.std.proofs.Common.{◌≡◌, ℕ, ◌==◌, true, false, sym, ◌∙◌, arith}
 use Rattle.std.proofs.lemmas.Bool.Decides.{nat_tests}
 use Rattle.first_pass_items.specs.Bytes.{backslash}
-use Rattle.first_pass_links.specs.Escapes.{begins_escape}
 use Rattle.first_pass_links.specs.Destinations.{ends_bracketed}
-use Rattle.first_pass_links.proofs.Destinations.{upto_unit, upto_stopped, upto_ended}
+use Rattle.first_pass_links.proofs.Destinations.{passed_unit, upto_stopped, upto_ended}
 use Rattle.first_pass_links.proofs.destination.scan_brackets.Goals as goal
 
 pub loop-at-preserved : goal.loop-at-preserved
 loop-at-preserved c =
-    let bs = c.args.bytes.now in
-    let e = c.unit_len-at.ensures.value ∙ ap (λ xs. if begins_escape xs then 2 else 1) c.rest_of.ensures.value in
-    let u = upto_unit ends_bracketed bs c.loop-at.at c.unit_len-at.result c.loop-at-test.true e (sym c.ends_bracketed.ensures ∙ c.if-not-ends_bracketed.true) in
-    record { within = omega (arith, c.unit_len-at.ensures.within, c.rest_of.ensures.whole); passed = u ∙ c.loop-at.invariant.passed }
+    passed_unit ends_bracketed c.args.bytes.now _ c.loop-at.at c.unit_len-at.result c.loop-at.invariant c.loop-at-test.true c.rest_of.ensures.value
+    c.unit_len-at.ensures.within c.unit_len-at.ensures.value (sym c.ends_bracketed.ensures ∙ c.if-not-ends_bracketed.true)
 
 no_backslash : (b : ℕ) → ends_bracketed b ≡ true → (b == backslash) ≡ false
 no_backslash b h = grind (arith, nat_tests, h)
 
 pub returns-else-not-ends_bracketed-clause-value : goal.returns-else-not-ends_bracketed-clause-value
-returns-else-not-ends_bracketed-clause-value c =
-    let s = sym c.ends_bracketed.ensures ∙ c.if-not-ends_bracketed.false in
-    omega (arith, upto_stopped ends_bracketed c.args.bytes.now c.loop-at.at c.loop-at-test.true s (no_backslash _ s), c.loop-at.invariant.passed)
+returns-else-not-ends_bracketed-clause-value c = grind (arith, upto_stopped, no_backslash)
 
 pub returns-after-loop-at-clause-value : goal.returns-after-loop-at-clause-value
-returns-after-loop-at-clause-value c =
-    omega (arith, upto_ended ends_bracketed c.args.bytes.now c.loop-at.at (omega arith), c.loop-at.invariant.passed)
+returns-after-loop-at-clause-value c = grind (arith, upto_ended)

@@ -1,7 +1,9 @@
-use Rattle.std.proofs.Common.{◌≡◌, false, sym, ◌∙◌, arith, ne_eqb}
+use Rattle.std.proofs.Common.{◌≡◌, false, sym, ap, ◌∙◌, arith, ne_eqb}
+use Rattle.std.proofs.lemmas.List.{get_or_past}
+use Rattle.first_pass_links.specs.Destinations.{ends_run}
 use Rattle.first_pass_links.specs.Escapes.{begins_escape}
 use Rattle.first_pass_links.proofs.PlainRuns.{are_plain, no_escape, run_part}
-use Rattle.first_pass_links.proofs.Backslashes.{last_escapes_none, end_escapes_none, run_backslash}
+use Rattle.first_pass_links.proofs.Runs.{end_escapes_none, run_backslash}
 use Rattle.first_pass_links.proofs.destination.text_len.Goals as goal
 use Rattle.first_pass_links.proofs.destination.text_len.Goals.{then-bytes-lt2-via-then-bytes-lt2, then-bytes-lt2-via-else-bytes-lt2+then-ends_run}
 
@@ -19,12 +21,10 @@ returns-then-bytes-lt2-clause-passed c =
     λ deepest nesting bound.
     let bs = c.args.bytes.now in
     let none : begins_escape bs ≡ false = elim c.then-bytes-lt2.branch [
-      | then-bytes-lt2-via-then-bytes-lt2 w ↦ last_escapes_none bs w.if-bytes-lt2.true
+      | then-bytes-lt2-via-then-bytes-lt2 w ↦ end_escapes_none bs (ap ends_run (get_or_past bs 1 0 (omega (arith, w.if-bytes-lt2.true))))
       | then-bytes-lt2-via-else-bytes-lt2+then-ends_run w ↦ end_escapes_none bs (sym w.ends_run.ensures ∙ w.if-ends_run.true)
     ] in
     run_part deepest nesting bs 0 c.requires.some c.requires.part none (omega (arith, c.requires.some)) (λ k below. absurd (omega arith)) bound
 
 pub returns-clause-passed : goal.returns-clause-passed
-returns-clause-passed c =
-    λ deepest nesting bound.
-    run_backslash deepest nesting c.args.bytes.now c.if-bytes-lt2.false c.if-bytes-ne92.false (sym c.ends_run.ensures ∙ c.if-ends_run.false) bound
+returns-clause-passed c = grind (arith, run_backslash)

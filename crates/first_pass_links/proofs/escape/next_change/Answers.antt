@@ -16,13 +16,7 @@ returns-in-Some-clause-some c =
 
 -- the bytes before the next backslash or `&` are kept
 upto : (c : In-Some-next_mark) → IsKept c.args.in_table c.args.bytes.now c.args.from (c.loop-plain.at + c.in-Some-next_mark.plain)
-upto c =
-    let hay = c.rest_of-in-loop-plain.ensures.value in
-    let whole = c.rest_of-in-loop-plain.ensures.whole in
-    let found = c.in-Some-next_mark.ensures in
-    kept_run c.args.in_table c.args.bytes.now c.args.from c.loop-plain.at c.in-Some-next_mark.plain c.loop-plain.invariant.kept
-    (omega (arith, found.within))
-    (λ j l. ap (λ xs. is_unmarked (get_or xs j 0)) (sym hay) ∙ found.first.1 j (omega arith) (omega arith))
+upto c = grind (arith, kept_run)
 
 pub returns-in-Some-change_at-clause-some : goal.returns-in-Some-change_at-clause-some
 returns-in-Some-change_at-clause-some c =

@@ -1,10 +1,10 @@
-use Rattle.std.proofs.Common.{◌≡◌, ◌+◌, ◌&&◌, Bool, take, drop, is_some, sym, ap, ◌∙◌}
+use Rattle.std.proofs.Common.{◌≡◌, ◌+◌, ◌&&◌, Bool, take, drop, is_some, sym, ap, ◌∙◌, arith}
 use Rattle.std.proofs.lemmas.Bool.{and_left}
-use Rattle.first_pass_items.specs.Bytes.{colon, right_bracket}
+use Rattle.first_pass_items.specs.Bytes.{colon}
 use Rattle.first_pass_lines.specs.Lines.{begins}
 use Rattle.first_pass_links.specs.Labels.{is_label}
 use Rattle.first_pass_links.specs.Footnotes.{footnote_head}
-use Rattle.first_pass_links.proofs.LineLabels.{no_further_line, line_head, head_unmarked}
+use Rattle.first_pass_links.proofs.Footnotes.{no_further_line, line_head, head_unmarked}
 use Rattle.first_pass_links.proofs.footnote.begins_footnote_in_line.Goals as goal
 use Rattle.first_pass_links.proofs.footnote.begins_footnote_in_line.Goals.{Else-not-begins}
 
@@ -15,14 +15,10 @@ returns-then-not-begins_footnote_mark c = λ t. sym (head_unmarked c.args.bytes.
 head : (c : Else-not-begins) (t : Bool) → is_some (footnote_head no_further_line t c.args.bytes.now)
     ≡ (begins colon (drop (c.scan_label_end-len.result + 1) c.rest_of-label.result.now)
     && is_label (take c.scan_label_end-len.result c.rest_of-label.result.now))
-head c t = line_head c.args.bytes.now _ _ c.rest_of-label.ensures.value c.scan_label_end-len.ensures.value
-    (sym c.begins_footnote_mark.ensures ∙ c.if-not-begins_footnote_mark.false) t
-    ∙ rw (← c.rest_of.ensures.value, ← c.begins.ensures.value, c.if-not-begins.false)
+head c t = grind (arith, line_head)
 
 pub returns-then-not-begins : goal.returns-then-not-begins
-returns-then-not-begins c = λ t. sym (line_head c.args.bytes.now _ _ c.rest_of-label.ensures.value c.scan_label_end-len.ensures.value
-    (sym c.begins_footnote_mark.ensures ∙ c.if-not-begins_footnote_mark.false) t
-    ∙ and_left _ _ (ap (begins right_bracket) (sym c.rest_of.ensures.value) ∙ sym c.begins.ensures.value ∙ c.if-not-begins.true))
+returns-then-not-begins c = grind (arith, line_head, and_left)
 
 pub returns-then-begins : goal.returns-then-begins
 returns-then-begins c = λ t. sym (head (goal.at.returns-then-begins c).Else-not-begins t

@@ -1,18 +1,16 @@
-use Rattle.std.proofs.Common.{◌≡◌, ◌+◌, Some, None, true, false, drop, refl, sym, ap, subst, ◌∙◌, arith, IsCharBoundary}
+use Rattle.std.proofs.Common.{◌≡◌, ◌+◌, true, false, drop, refl, sym, ap, subst, ◌∙◌, arith, IsCharBoundary}
 use Rattle.first_pass_items.specs.Bytes.{colon}
 use Rattle.first_pass_items.proofs.ResultFacts.{on_err}
 use Rattle.first_pass_lines.specs.Lines.{begins}
 use Rattle.first_pass_links.specs.Footnotes.{begins_footnote_mark}
-use Rattle.first_pass_links.specs.Labels.{label_at, CanErr}
-use Rattle.first_pass_links.proofs.Footnotes.{IsAnswer, after_mark, further, no_mark, no_label, head_by, after_colon}
+use Rattle.first_pass_links.specs.Labels.{CanErr}
+use Rattle.first_pass_links.proofs.Parts.{of_text}
+use Rattle.first_pass_links.proofs.Footnotes.{after_mark, further, no_mark, no_label, head_by, after_colon}
 use Rattle.first_pass_links.proofs.footnote.scan_footnote_head.Goals as goal
 use Rattle.first_pass_links.proofs.footnote.scan_footnote_head.Goals.{Else-not-begins_footnote_mark, After-begins}
 
 pub returns-then-not-begins_footnote_mark-clause-value : goal.returns-then-not-begins_footnote_mark-clause-value
-returns-then-not-begins_footnote_mark-clause-value g c = λ prefix a.
-    let e = no_mark prefix c.args.is_in_table c.args.text.now
-    (ap begins_footnote_mark (sym c.as_bytes-bytes.ensures.value) ∙ sym c.begins_footnote_mark.ensures ∙ c.if-not-begins_footnote_mark.true) in
-    rw e refl
+returns-then-not-begins_footnote_mark-clause-value g c = grind (arith, no_mark)
 
 -- the text begins with `[^`
 mark_is : (g : _) (c : Else-not-begins_footnote_mark g) → begins_footnote_mark c.args.text.now ≡ true
@@ -37,13 +35,12 @@ returns-in_default-clause-value g c = λ prefix a.
     let there = further c.args.text.now following.now c.range_from-rest.result.now at (mark_place g before) c.range_from-rest.ensures.value b e in
     a following answer (2 + at) there.0 there.1) in
     let e = no_label prefix c.args.is_in_table c.args.text.now (mark_is g before)
-    (subst (λ xs. IsAnswer (label_at prefix c.args.is_in_table xs) None) c.range_from-rest.ensures.value k) in
+    (rw c.range_from-rest.ensures.value at k) in
     rw e refl
 
 -- whether a colon follows the label
 colon_is : (g : _) (c : After-begins g) → begins colon (drop (c.in-Some.len + 2) c.args.text.now) ≡ c.begins.result
-colon_is g c =
-    ap (begins colon) (sym (c.rest_of.ensures.value ∙ ap (drop (c.in-Some.len + 2)) c.as_bytes-bytes.ensures.value)) ∙ sym c.begins.ensures.value
+colon_is g c = sym (of_text (begins colon) _ c.begins.ensures.value c.rest_of.ensures.value c.as_bytes-bytes.ensures.value)
 
 pub returns-then-not-begins-clause-value : goal.returns-then-not-begins-clause-value
 returns-then-not-begins-clause-value g c = λ prefix a.
@@ -52,7 +49,7 @@ returns-then-not-begins-clause-value g c = λ prefix a.
     let there = further c.args.text.now following.now c.range_from-rest.result.now at (mark_place g before) c.range_from-rest.ensures.value b e in
     a following answer (2 + at) there.0 there.1) in
     head_by false prefix c.args.is_in_table c.args.text.now c.in-Some.len c.in-Some.label (mark_is g before)
-    (subst (λ xs. IsAnswer (label_at prefix c.args.is_in_table xs) (Some (c.in-Some.len, c.in-Some.label))) c.range_from-rest.ensures.value k)
+    (rw c.range_from-rest.ensures.value at k)
     (colon_is g (goal.at.returns-then-not-begins-clause-value g c).After-begins ∙ c.if-not-begins.true)
 
 pub returns-clause-value : goal.returns-clause-value
@@ -62,13 +59,11 @@ returns-clause-value g c = λ prefix a.
     let there = further c.args.text.now following.now c.range_from-rest.result.now at (mark_place g before) c.range_from-rest.ensures.value b e in
     a following answer (2 + at) there.0 there.1) in
     head_by true prefix c.args.is_in_table c.args.text.now c.in-Some.len c.in-Some.label (mark_is g before)
-    (subst (λ xs. IsAnswer (label_at prefix c.args.is_in_table xs) (Some (c.in-Some.len, c.in-Some.label))) c.range_from-rest.ensures.value k)
+    (rw c.range_from-rest.ensures.value at k)
     (colon_is g (goal.at.returns-clause-value g c).After-begins ∙ c.if-not-begins.false)
 
 pub returns-clause-fits : goal.returns-clause-fits
-returns-clause-fits g c =
-    let within = (rw c.in-Some.is at c.in_ok-len.ensures.within).0 in
-    (omega arith, after_colon c.args.text.now c.in-Some.len c.utf8.text (colon_is g (goal.at.returns-clause-fits g c).After-begins ∙ c.if-not-begins.false))
+returns-clause-fits g c = grind (arith, after_colon, colon_is)
 
 pub returns-in_err-len-clause-err : goal.returns-in_err-len-clause-err
 returns-in_err-len-clause-err g c =

@@ -1,4 +1,4 @@
-use Rattle.std.proofs.Common.{◌++◌, sym, ap, ◌∙◌, string_bytes}
+use Rattle.std.proofs.Common.{◌∙◌, arith}
 use Rattle.first_pass_links.proofs.Parts.{part-start, whole_kept, whole_differs}
 use Rattle.first_pass_links.proofs.label.finish.Goals as goal
 
@@ -7,6 +7,4 @@ returns-then-from-eq0-clause-value c =
     c.range.ensures.value ∙ part-start c.args.text.now c.args.at ∙ whole_kept c.args.text.now _ c.args.from c.args.at c.requires.read c.if-from-eq0.true
 
 pub returns-clause-borrowed : goal.returns-clause-borrowed
-returns-clause-borrowed c =
-    λ e. whole_differs c.args.text.now _ c.args.from c.args.at c.requires.read c.if-from-eq0.false
-    (ap (λ xs. string_bytes c.args.written ++ xs) (sym c.range-2.ensures.value) ∙ sym c.in_ok-push_str.ensures.bytes ∙ sym c.into_boxed_str.ensures.bytes ∙ e)
+returns-clause-borrowed c = grind (arith, whole_differs)

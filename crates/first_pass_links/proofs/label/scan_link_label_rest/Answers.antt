@@ -1,9 +1,8 @@
 use Rattle.std.proofs.Common.{inl, ◌≡◌, ℕ, ◌+◌, List, Option, Some, None, MatchOption, refl, ◌∙◌, arith}
-use Rattle.std.proofs.lemmas.Str.{IsCharBoundary-before_ascii, IsCharBoundary-after_ascii}
+use Rattle.std.proofs.lemmas.Str.{IsCharBoundary-after_ascii}
 use Rattle.first_pass_items.specs.declared.cow_str.CowStr.{CowStr}
 use Rattle.first_pass_items.specs.CowText.{text_of}
 use Rattle.first_pass_items.proofs.ResultFacts.{on_err}
-use Rattle.first_pass_links.specs.Labels.{label_at}
 use Rattle.first_pass_links.proofs.label.scan_link_label_rest.Goals as goal
 
 abbrev NoUnits : Option (ℕ × ℕ) → Type 0
@@ -24,21 +23,16 @@ written_read None from at bytes label e h = cc
 written_read (Some l) from at bytes label e h = (h.0, e ∙ h.1)
 
 pub returns-in_default-clause-value : goal.returns-in_default-clause-value
-returns-in_default-clause-value g c = λ prefix a.
-    none_read (label_at prefix c.args.is_in_table c.args.text.now) ((rw c.in_default.is at c.in_ok-from.ensures.ok).value prefix a)
+returns-in_default-clause-value g c = grind (arith, none_read)
 
 pub finish-requires-clause-read : goal.finish-requires-clause-read
 finish-requires-clause-read g c = (rw c.in-Some.is at c.in_ok-from.ensures.ok).lighter
 
 pub finish-requires-clause-boundary : goal.finish-requires-clause-boundary
-finish-requires-clause-boundary g c =
-    let there = (rw c.in-Some.is at c.in_ok-from.ensures.ok).closes in
-    IsCharBoundary-before_ascii c.args.text.now c.in-Some.at there.0 (omega (arith, there.1))
+finish-requires-clause-boundary g c = grind arith
 
 pub returns-clause-value : goal.returns-clause-value
-returns-clause-value g c = λ prefix a.
-    written_read (label_at prefix c.args.is_in_table c.args.text.now) c.in-Some.from c.in-Some.at _ _ c.in_ok-finish.ensures.value
-    ((rw c.in-Some.is at c.in_ok-from.ensures.ok).value prefix a)
+returns-clause-value g c = grind (arith, written_read)
 
 pub returns-clause-within : goal.returns-clause-within
 returns-clause-within g c = let there = (rw c.in-Some.is at c.in_ok-from.ensures.ok).closes in (omega arith, omega (arith, there.0))

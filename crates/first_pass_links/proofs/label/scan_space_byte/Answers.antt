@@ -12,13 +12,10 @@ after_white : (text : List ℕ) (at : ℕ) → IsUtf8 text → at < length text 
 after_white text at u l w = IsCharBoundary-after_ascii text at u l (white_is_ascii _ w).0
 
 pub returns-then-not-ends_line-clause-some : goal.returns-then-not-ends_line-clause-some
-returns-then-not-ends_line-clause-some g c =
-    (omega arith, after_white c.args.bytes.now c.args.at c.requires.text c.requires.within c.requires.white)
+returns-then-not-ends_line-clause-some g c = grind (arith, after_white)
 
 pub returns-then-not-ends_line-clause-reads : goal.returns-then-not-ends_line-clause-reads
-returns-then-not-ends_line-clause-reads g c =
-    λ h a. left-byte h c.args.bytes.now c.args.at c.requires.within
-    (ap (ends_line (get_or c.args.bytes.now c.args.at 0)) (sym c.rest_of-following.ensures.value) ∙ sym c.ends_line.ensures ∙ c.if-not-ends_line.true)
+returns-then-not-ends_line-clause-reads g c = grind (arith, left-byte)
 
 -- the prefix is a part of the bytes after the line ending
 prefix_place : (g : Over) (c : In-Some g) → IsCharBoundary c.args.bytes.now (c.args.at + 1 + c.in-Some.prefix)
@@ -54,12 +51,4 @@ returns-in-None-clause-none g c =
 
 -- the handler fails
 pub returns-in_err-prefix-clause-err : goal.returns-in_err-prefix-clause-err
-returns-in_err-prefix-clause-err g c = on_err c.from_residual.result (record {
-  within = c.requires.within;
-  line_end = ap (ends_line (get_or c.args.bytes.now c.args.at 0)) (sym c.rest_of-following.ensures.value) ∙ sym c.ends_line.ensures ∙ c.if-not-ends_line.false;
-  boundary = after_white c.args.bytes.now c.args.at c.requires.text c.requires.within c.requires.white;
-  following = c.rest_of-following.result;
-  past_is = c.rest_of-following.ensures.value;
-  error = c.in_err-prefix.field-0.0;
-  errs = c.in_err-prefix.ensures;
-})
+returns-in_err-prefix-clause-err g c = grind (arith, on_err, after_white)

@@ -1,5 +1,5 @@
-use Rattle.std.proofs.Common.{inl, inr, ◌≡◌, ◌⊎◌, ℕ, Bool, List, Option, Result, Some, None, [], ◌++◌, ◌+◌, ◌<◌, ◌≤◌, ◌&&◌, ◌==◌, true, false, length}
-use Rattle.std.proofs.Common.{get_or, drop, refl, sym, ap, subst, ◌∙◌, arith, Bor, string_bytes, IsCharBoundary}
+use Rattle.std.proofs.Common.{inl, inr, ◌≡◌, ◌⊎◌, ℕ, Bool, List, Option, Result, Some, None, [], ◌++◌, ◌+◌, ◌<◌, ◌≤◌, true, false, length, get_or, drop, refl}
+use Rattle.std.proofs.Common.{sym, ap, subst, ◌∙◌, arith, Bor, string_bytes, IsCharBoundary}
 use Rattle.std.specs.declared.alloc.AllocError.{AllocError}
 use Rattle.std.proofs.lemmas.Bool.{cases_lt, and_left, and_right, cond-false}
 use Rattle.std.proofs.lemmas.List.{drop_more}
@@ -9,12 +9,11 @@ use Rattle.first_pass_items.proofs.ResultFacts.{on_err}
 use Rattle.first_pass_lines.specs.Lines.{begins}
 use Rattle.first_pass_links.specs.Labels.{AnswersWith, IsRewritten, is_bracket, label_at}
 use Rattle.first_pass_links.specs.Plain.{IsPlainLabel}
-use Rattle.first_pass_links.specs.Units.{part, left_at, IsLighter, Reads, ReadsUnits, StopsByError, IsBlankRest}
+use Rattle.first_pass_links.specs.Units.{part, left_at, IsLighter, Reads, ReadsUnits}
 use Rattle.first_pass_links.proofs.Destinations.{first_byte}
-use Rattle.first_pass_links.proofs.Parts.{part-none, part-start}
+use Rattle.first_pass_links.proofs.Parts.{of_text, part-none, part-start}
 use Rattle.first_pass_links.proofs.PlainRuns.{plain_label}
-use Rattle.first_pass_links.proofs.Labels.{too_long, blank_stops, end_stops, at_bracket, label_after, label_read, read_nothing, read_both, read_unit}
-use Rattle.first_pass_links.proofs.Labels.{Known}
+use Rattle.first_pass_links.proofs.Labels.{too_long, blank_stops, end_stops, at_bracket, label_after, label_read, read_nothing, read_both, read_unit, Known}
 use Rattle.first_pass_links.proofs.Rewritten.{track_unit, track_written, track_stop}
 use Rattle.first_pass_links.proofs.label.scan_units.Goals as goal
 use Rattle.first_pass_links.proofs.label.scan_units.Goals.{In-Some-2, then-loop-at-test+else-not-is_bracket, else-loop-at-test}
@@ -39,8 +38,7 @@ loop-at-init g c =
 -- a unit is read
 reads : (g : _) (c : In-Some-2 g) (h : List ℕ → Option ℕ) → AnswersWith c.args.text.now h (λ b r. g.F.Fn.post c.args.linebreak_handler.now (b, tt) r)
     → Reads h c.args.in_table c.args.text.now c.loop-at.at c.in-Some-2.unit
-reads g c = subst (λ xs. (h : List ℕ → Option ℕ) → AnswersWith xs h (λ b r. g.F.Fn.post c.args.linebreak_handler.now (b, tt) r)
-    → Reads h c.args.in_table xs c.loop-at.at c.in-Some-2.unit) c.as_bytes-bytes.ensures.value (rw c.in-Some-2.is at c.in_ok-unit.ensures.reads)
+reads g c = rw c.as_bytes-bytes.ensures.value at (rw c.in-Some-2.is at c.in_ok-unit.ensures.reads)
 
 pub loop-at-preserved : goal.loop-at-preserved
 loop-at-preserved g c = record {
@@ -54,8 +52,7 @@ loop-at-preserved g c = record {
 -- there is no label
 none_read : (text written : List ℕ) (in_table : Bool) (post : Bor (List ℕ) → Result (Option ℕ) AllocError → Type 0)
     → ((prefix : List ℕ → Option ℕ) → AnswersWith text prefix post → label_at prefix in_table text ≡ None) → ReadsUnits text in_table post written None
-none_read text written in_table post none =
-    record { value = λ prefix a. let e = none prefix a in rw e refl; closes = tt; lighter = tt; changes = tt }
+none_read text written in_table post none = grind arith
 
 -- the label is known up to its `]`
 some_read : (text written : List ℕ) (in_table : Bool) (post : Bor (List ℕ) → Result (Option ℕ) AllocError → Type 0) (from at : ℕ)
@@ -63,16 +60,14 @@ some_read : (text written : List ℕ) (in_table : Bool) (post : Bor (List ℕ) �
     → (at < length text) × (get_or text at 0 ≡ right_bracket) → IsLighter text written from at
     → (0 < from → (prefix : List ℕ → Option ℕ) → AnswersWith text prefix post → IsRewritten prefix in_table text)
     → ReadsUnits text in_table post written (Some (from, at))
-some_read text written in_table post from at some closes lighter changes =
-    record { value = λ prefix a. let e = some prefix a in rw e (refl, refl); closes = closes; lighter = lighter; changes = changes }
+some_read text written in_table post from at some closes lighter changes = grind arith
 
 -- a plain label
 pub returns-in-Some-clause-ok : goal.returns-in-Some-clause-ok
 returns-in-Some-clause-ok g c =
     let text = c.args.text.now in
     let len = c.in-Some.len in
-    let plain : IsPlainLabel text len = subst (λ (xs : List ℕ). IsPlainLabel xs len) c.as_bytes-bytes.ensures.value
-    (rw c.in-Some.is at c.scan_plain_label.ensures) in
+    let plain : IsPlainLabel text len = rw c.as_bytes-bytes.ensures.value at (rw c.in-Some.is at c.scan_plain_label.ensures) in
     let there = first_byte right_bracket text len plain.closes in
     let written : string_bytes c.args.written.now ++ part text 0 len ≡ part text 0 len = ap (λ bs. bs ++ part text 0 len) c.requires.empty in
     some_read text (string_bytes c.args.written.now) c.args.in_table _ 0 len
@@ -88,8 +83,7 @@ returns-in-Some-clause-ok g c =
 
 pub returns-in_default-2-clause-ok : goal.returns-in_default-2-clause-ok
 returns-in_default-2-clause-ok g c = none_read c.args.text.now _ c.args.in_table _ (λ h a.
-    let r = subst (λ xs. (h : List ℕ → Option ℕ) → AnswersWith xs h (λ b r. g.F.Fn.post c.args.linebreak_handler.now (b, tt) r)
-    → IsBlankRest h xs c.loop-at.at) c.as_bytes-bytes.ensures.value (c.in_ok-unit.ensures.none c.in_default-2.is) in
+    let r = rw c.as_bytes-bytes.ensures.value at (c.in_ok-unit.ensures.none c.in_default-2.is) in
     label_read h c.args.in_table c.args.text.now c.loop-at.at _ (c.loop-at.invariant.tracked h a).read
     ∙ blank_stops h c.args.in_table c.args.text.now c.loop-at.at (r h a) _)
 
@@ -105,20 +99,12 @@ returns-then-characters-gt-MOST_CHARACTERS-clause-ok g c = none_read c.args.text
 not_closed : (h : List ℕ → Option ℕ) (t : Bool) (text : List ℕ) (at : ℕ) (known : Known) → known.characters ≤ 999
     → (at < length text → is_bracket (get_or text at 0) ≡ true) → (known.solid ≡ false) ⊎ (begins right_bracket (drop at text) ≡ false)
     → label_after t known (left_at h text at) ≡ None
-not_closed h t text at known few bracket why = elim (cases_lt at (length text)) [
-  | inl within ↦
-      at_bracket h t text at known within (bracket within) few ∙ cond-false ((get_or text at 0 == right_bracket) && known.solid) _ _ (elim why [
-        | inl blank ↦ and_right _ _ blank
-        | inr none ↦ and_left _ _ (ap (begins right_bracket) (sym (drop_more text at 0 within)) ∙ none)
-      ])
-  | inr past ↦ end_stops h t text at past known
-]
+not_closed h t text at known few bracket why = grind (arith, cases_lt, at_bracket, cond-false, and_right, and_left, drop_more, end_stops)
 
 pub returns-then-begins-clause-ok : goal.returns-then-begins-clause-ok
 returns-then-begins-clause-ok g c =
     let text = c.args.text.now in
-    let closes : begins right_bracket (drop c.loop-at.at text) ≡ true = ap (begins right_bracket)
-    (sym (c.rest_of.ensures.value ∙ ap (drop c.loop-at.at) c.as_bytes-bytes.ensures.value)) ∙ sym c.begins.ensures.value ∙ c.if-begins.true in
+    let closes = sym (of_text (begins right_bracket) _ c.begins.ensures.value c.rest_of.ensures.value c.as_bytes-bytes.ensures.value) ∙ c.if-begins.true in
     let there = first_byte right_bracket text c.loop-at.at closes in
     some_read text _ c.args.in_table _ c.loop-at.from c.loop-at.at
     (λ h a. label_read h c.args.in_table text c.loop-at.at _ (c.loop-at.invariant.tracked h a).read
@@ -138,7 +124,7 @@ returns-clause-ok g c =
     ] in
     let why : (c.loop-at.solid ≡ false) ⊎ (begins right_bracket (drop c.loop-at.at text) ≡ false) = elim c.else-solid.branch [
       | else-solid-via-then-solid+else-begins w ↦
-          inr (ap (begins right_bracket) (sym (w.rest_of.ensures.value ∙ ap (drop c.loop-at.at) b)) ∙ sym w.begins.ensures.value ∙ w.if-begins.false)
+          inr (sym (of_text (begins right_bracket) _ w.begins.ensures.value w.rest_of.ensures.value b) ∙ w.if-begins.false)
       | else-solid-via-else-solid w ↦ inl w.if-solid.false
     ] in
     none_read text _ c.args.in_table _
@@ -150,8 +136,7 @@ pub returns-in_err-unit-clause-err : goal.returns-in_err-unit-clause-err
 returns-in_err-unit-clause-err g c =
     on_err c.from_residual.result
     (λ h a. track_stop h c.args.in_table c.args.text.now c.loop-at.at _ _ (c.loop-at.invariant.tracked h a).read
-    (subst (λ xs. StopsByError xs c.loop-at.at (λ b r. g.F.Fn.post c.args.linebreak_handler.now (b, tt) r))
-    c.as_bytes-bytes.ensures.value c.in_err-unit.ensures.err) a)
+    (rw c.as_bytes-bytes.ensures.value at c.in_err-unit.ensures.err) a)
 
 -- a unit is written
 pub returns-in_err-from-clause-err : goal.returns-in_err-from-clause-err

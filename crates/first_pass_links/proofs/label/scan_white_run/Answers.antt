@@ -1,4 +1,4 @@
-use Rattle.std.proofs.Common.{◌≡◌, ℕ, ◌+◌, List, slice_index, sym, ap, ◌∙◌, arith}
+use Rattle.std.proofs.Common.{◌≡◌, ℕ, ◌+◌, List, slice_index, sym, ◌∙◌, arith}
 use Rattle.first_pass_items.specs.Bytes.{space}
 use Rattle.first_pass_links.proofs.Labels.{run_more, run_blank}
 use Rattle.first_pass_links.proofs.label.scan_white_run.Goals as goal
@@ -6,9 +6,7 @@ use Rattle.first_pass_links.proofs.label.scan_white_run.Goals as goal
 -- after one space, the rest of the run begins at the next offset
 first_is : (bytes : List ℕ) (at next following n : ℕ)
     → (slice_index bytes next ≡ space → following ≡ next + 1) → (n ≡ 0 → next ≡ at) → n + 1 ≡ 1 → slice_index bytes at ≡ space → following ≡ at + 1
-first_is bytes at next following n f started one white =
-    let e = started (omega arith) in
-    f (ap (slice_index bytes) e ∙ white) ∙ ap (λ k. k + 1) e
+first_is bytes at next following n f started one white = grind arith
 
 pub returns-in_default-clause-none : goal.returns-in_default-clause-none
 returns-in_default-clause-none g c =

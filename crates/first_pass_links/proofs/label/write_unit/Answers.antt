@@ -1,6 +1,6 @@
-use Rattle.std.proofs.Common.{◌≡◌, ◌++◌, ◌∷◌, [], sym, ap, subst, ◌∙◌, if◌then◌else◌, string_bytes}
+use Rattle.std.proofs.Common.{◌≡◌, ◌++◌, ◌∷◌, [], if◌then◌else◌, string_bytes, arith}
 use Rattle.first_pass_items.specs.Bytes.{space}
-use Rattle.first_pass_links.specs.Units.{part, IsLighter}
+use Rattle.first_pass_links.specs.Units.{part}
 use Rattle.first_pass_links.proofs.Parts.{unit_kept, unit_changed, unit_read}
 use Rattle.first_pass_links.proofs.label.write_unit.Goals as goal
 use Rattle.first_pass_links.proofs.label.write_unit.Goals.{In_ok-push_str-2}
@@ -10,14 +10,12 @@ returns-then-unit-clause-bytes c = unit_kept c.args.text.now _ c.args.from c.arg
 
 written : (c : In_ok-push_str-2) → string_bytes c.push_str-2.new.self
     ≡ (string_bytes c.args.written.now ++ part c.args.text.now c.args.from c.args.unit.paused) ++ (if c.args.unit.space then space ∷ [] else [])
-written c = c.in_ok-push_str-2.ensures.bytes
-    ∙ ap (λ xs. string_bytes c.push_str.new.self ++ xs) c.replacement.ensures ∙ ap (λ xs. xs ++ (if c.args.unit.space then space ∷ [] else []))
-    (c.in_ok-push_str.ensures.bytes ∙ ap (λ xs. string_bytes c.args.written.now ++ xs) c.range.ensures.value)
+written c = grind arith
 
 pub returns-clause-read : goal.returns-clause-read
-returns-clause-read c = subst (λ xs. IsLighter c.args.text.now xs c.args.unit.resumed c.args.unit.next) (sym (written c))
-    (unit_read c.args.text.now _ c.args.from c.args.at c.args.unit c.requires.read c.requires.unit c.if-unit.false)
+returns-clause-read c =
+    rw (written c) (unit_read c.args.text.now _ c.args.from c.args.at c.args.unit c.requires.read c.requires.unit c.if-unit.false)
 
 pub returns-clause-bytes : goal.returns-clause-bytes
-returns-clause-bytes c = ap (λ xs. xs ++ part c.args.text.now c.args.unit.resumed c.args.unit.next) (written c)
-    ∙ unit_changed c.args.text.now _ c.args.from c.args.at c.args.unit c.requires.read c.requires.unit
+returns-clause-bytes c =
+    rw (written c) (unit_changed c.args.text.now _ c.args.from c.args.at c.args.unit c.requires.read c.requires.unit)

@@ -1,12 +1,12 @@
 use Rattle.std.proofs.Common.{◌≡◌, ℕ, zero, suc, ◌+◌, ◌<◌, ◌==◌, Bool, true, false, if◌then◌else◌, List, drop, length, reverse, slice_index, Some}
 use Rattle.std.proofs.Common.{refl, sym, ap, subst, ◌∙◌, arith, IsSomeAnd, get_or-drop, length-drop, eqb-true}
 use Rattle.first_pass_grammar.proofs.Common.{length-map, length-reverse, and_parts, cond_both, nat_tests, Item, Paragraph, TreeIndex, Forest, depths}
-use Rattle.first_pass_grammar.proofs.Common.{last_before, with_body_at, with_end_at, body_at, depths-modify}
+use Rattle.first_pass_grammar.proofs.Common.{last_before, with_end_at, depths-modify}
 use Rattle.std.specs.List.{position_or_len}
 use Rattle.std.proofs.lemmas.List.Sums.{passes_at_first}
 use Rattle.first_pass_tree.specs.Forest.{IsChildOfCurrent}
 use Rattle.first_pass_tree.proofs.Keeps.{depth_read, current-within}
-use Rattle.first_pass_lists.specs.Titles.{tree_index, is_other_at, is_possible_title, first_other, left_untitled}
+use Rattle.first_pass_lists.specs.Titles.{tree_index, is_other_at, first_other, left_untitled}
 use Rattle.first_pass_lists.proofs.MovedLemmas.{IsAlike}
 use Rattle.first_pass_lists.proofs.titles.fixup_end_of_definition_list.Goals as goal
 
@@ -57,22 +57,13 @@ other_at f ns spine r list nodes way is within =
     }
 
 like_length : (f g : Forest Item) → IsAlike f g → length g.nodes ≡ length f.nodes
-like_length f g like =
-    sym (length-map g.nodes (λ n. n.0)) ∙ ap (λ (ds : List ℕ). length ds) like.depths_are ∙ length-map f.nodes (λ n. n.0)
+like_length f g like = grind (arith, length-map)
 
 untitled : (f g : Forest Item) (n : ℕ) → g ≡ left_untitled f n → IsAlike f g
-untitled f g n is =
-    subst (IsAlike f) (sym is) (cond_both (is_possible_title (body_at f.nodes n)) (with_body_at f (tree_index n) Paragraph) f (IsAlike f)
-    (λ _. record { depths_are = depths-modify f.nodes n (λ x. record x { body = Paragraph }); spine_is = refl; current_is = refl })
-    (λ _. record { depths_are = refl; spine_is = refl; current_is = refl }))
+untitled f g n is = grind (arith, cond_both, depths-modify)
 
 ended : (f g h : Forest Item) (list : TreeIndex) (e : ℕ) → IsAlike f g → h ≡ with_end_at g list e → IsAlike f h
-ended f g h list e like is =
-    subst (IsAlike f) (sym is) (record {
-      depths_are = depths-modify g.nodes list.0 (λ x. record x { «end» = e }) ∙ like.depths_are;
-      spine_is = like.spine_is;
-      current_is = like.current_is;
-    })
+ended f g h list e like is = grind (arith, depths-modify)
 
 child_of : (f g : Forest Item) (list : TreeIndex) (n : ℕ) → IsOther f list.0 n → IsAlike f g → f.current ≡ Some list → IsChildOfCurrent g (tree_index n)
 child_of f g list n other like current = record {

@@ -1,4 +1,4 @@
-use Rattle.std.proofs.Common.{Some, length, sym, ap, ◌∙◌, arith}
+use Rattle.std.proofs.Common.{length, sym, ap, ◌∙◌, arith}
 use Rattle.first_pass_grammar.proofs.Common.{line_rest, after}
 use Rattle.first_pass_open.specs.Path.{path_in}
 use Rattle.first_pass_open.proofs.FrontLemmas.{taken_none, in_spine, place_within, node_taken, stops, outer-all}
@@ -8,18 +8,13 @@ use Rattle.first_pass_open.proofs.QuoteLemmas.{rest_passed}
 use Rattle.first_pass_open.proofs.containers.continued_rest.Goals as goal
 
 pub loop-i-init : goal.loop-i-init
-loop-i-init c =
-    taken_none c.args.options c.args.tree.now.nodes c.args.tree.now.spine (line_rest c.args.bytes.now) ∙ ap (λ r. Some r) (sym c.new-rest.ensures)
+loop-i-init c = grind (arith, taken_none)
 
 pub returns-then-is_at_eol : goal.returns-then-is_at_eol
-returns-then-is_at_eol c =
-    sym (rest_passed c.args.options c.args.tree.now c.args.nodes_to_quote c.loop-i.i (line_rest c.args.bytes.now) c.loop-i.rest c.requires
-    c.if-nodes_to_quote-i.true c.loop-i.invariant
-    record { none = sym c.remaining_space.ensures.value ∙ c.if-remaining_space-eq0.true; ends = sym c.is_at_eol.ensures ∙ c.if-is_at_eol.true })
+returns-then-is_at_eol c = grind (arith, rest_passed)
 
 pub index-requires : goal.index-requires
-index-requires c =
-    place_within c.args.tree.now.nodes c.args.tree.now.spine _ c.loop-i.i c.recall_forest.ensures.opened c.walk_spine-ix-items.ensures c.loop-i-test.true
+index-requires c = grind (arith, place_within)
 
 pub returns-then-not-takes_prefix : goal.returns-then-not-takes_prefix
 returns-then-not-takes_prefix c =
@@ -34,7 +29,4 @@ returns-then-not-takes_prefix c =
     sym (ap (λ s. after (path_in options f.nodes s) (line_rest c.args.bytes.now)) (sym (outer-all f.spine)) ∙ none)
 
 pub loop-i-preserved : goal.loop-i-preserved
-loop-i-preserved c =
-    node_taken c.args.options c.args.tree.now.nodes c.args.tree.now.spine _ c.loop-i.i c.index.result.now (line_rest c.args.bytes.now) c.loop-i.rest
-    c.walk_spine-ix-items.ensures c.loop-i-test.true c.index.ensures c.loop-i.invariant
-    ∙ taken-yes _ c.loop-i.rest c.takes_prefix.new.line_start c.takes_prefix.result c.takes_prefix.ensures c.if-not-takes_prefix.false
+loop-i-preserved c = grind (arith, node_taken, taken-yes)

@@ -5,9 +5,7 @@ use Rattle.first_pass_open.proofs.QuoteLemmas.{none_after_more}
 use Rattle.first_pass_open.proofs.containers.nodes_to_quote.Goals as goal
 
 pub index-requires : goal.index-requires
-index-requires c =
-    let within = c.loop-end.invariant.within in
-    place_within c.args.tree.now.nodes c.args.tree.now.spine _ (c.loop-end.end - 1) c.recall_forest.ensures.opened c.walk_spine-spine.ensures (omega arith)
+index-requires c = grind (arith, place_within)
 
 pub loop-end-preserved : goal.loop-end-preserved
 loop-end-preserved c =

@@ -1,4 +1,4 @@
-use Rattle.std.proofs.Common.{◌≡◌, ℕ, ◌<◌, ◌≤◌, length, None, sym, ap, ◌∙◌, subst, arith}
+use Rattle.std.proofs.Common.{◌≡◌, ℕ, ◌<◌, ◌≤◌, length, None, ◌∙◌, arith}
 use Rattle.first_pass_grammar.proofs.Common.{length-reverse, after}
 use Rattle.first_pass_open.specs.Path.{path_in, outer}
 use Rattle.first_pass_open.proofs.FrontLemmas.{taken_none, in_spine, place_within, node_taken, stops, front_is}
@@ -11,8 +11,7 @@ pub loop-i-init : goal.loop-i-init
 loop-i-init c = taken_none c.args.options c.args.tree.now.nodes c.args.tree.now.spine c.args.line_start.now
 
 pub index-requires : goal.index-requires
-index-requires c =
-    place_within c.args.tree.now.nodes c.args.tree.now.spine _ c.loop-i.i c.recall_forest.ensures.opened c.walk_spine-spine.ensures c.loop-i-test.true
+index-requires c = grind (arith, place_within)
 
 none_longer : (c : Then-not-takes_prefix) → (m : ℕ) → c.loop-i.i < m → m ≤ length c.args.tree.now.spine
     → after (path_in c.args.options c.args.tree.now.nodes (outer m c.args.tree.now.spine)) c.args.line_start.now ≡ None
@@ -26,22 +25,10 @@ pub returns-then-not-takes_prefix-clause-stops : goal.returns-then-not-takes_pre
 returns-then-not-takes_prefix-clause-stops c = none_longer c
 
 pub returns-then-not-takes_prefix-clause-front : goal.returns-then-not-takes_prefix-clause-front
-returns-then-not-takes_prefix-clause-front c =
-    let b = in_spine c.args.tree.now.spine _ c.loop-i.i c.walk_spine-spine.ensures c.loop-i-test.true in
-    (taken_no _ c.loop-i.line_start c.takes_prefix.new.line_start c.takes_prefix.result c.takes_prefix.ensures c.if-not-takes_prefix.true).1
-    ∙ sym (front_is c.args.options c.args.tree.now.nodes c.args.tree.now.spine c.loop-i.i c.args.line_start.now c.loop-i.line_start
-    (omega arith) c.loop-i.invariant (none_longer c))
+returns-then-not-takes_prefix-clause-front c = grind (arith, in_spine, taken_no, front_is, none_longer)
 
 pub loop-i-preserved : goal.loop-i-preserved
-loop-i-preserved c =
-    node_taken c.args.options c.args.tree.now.nodes c.args.tree.now.spine _ c.loop-i.i c.index.result.now c.args.line_start.now c.loop-i.line_start
-    c.walk_spine-spine.ensures c.loop-i-test.true c.index.ensures c.loop-i.invariant
-    ∙ taken-yes _ c.loop-i.line_start c.takes_prefix.new.line_start c.takes_prefix.result c.takes_prefix.ensures c.if-not-takes_prefix.false
+loop-i-preserved c = grind (arith, node_taken, taken-yes)
 
 pub returns-clause-front : goal.returns-clause-front
-returns-clause-front c =
-    let n = ap length c.walk_spine-spine.ensures ∙ length-reverse c.args.tree.now.spine in
-    let e = c.loop-i-test.false in
-    let all : c.loop-i.i ≤ length c.args.tree.now.spine = subst (λ k. c.loop-i.i ≤ k) n c.loop-i.auto.i-end in
-    sym (front_is c.args.options c.args.tree.now.nodes c.args.tree.now.spine c.loop-i.i c.args.line_start.now c.loop-i.line_start all c.loop-i.invariant
-    (λ m low high. absurd (omega arith)))
+returns-clause-front c = grind (arith, length-reverse, front_is)

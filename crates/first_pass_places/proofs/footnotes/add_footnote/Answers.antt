@@ -1,4 +1,4 @@
-use Rattle.std.proofs.Common.{ℕ, List, [], ◌∷◌, refl, sym, ap, ◌∙◌}
+use Rattle.std.proofs.Common.{ℕ, List, [], ◌∷◌, sym, ap, ◌∙◌, arith}
 use Rattle.first_pass_grammar.proofs.Common.{CowStr, Borrowed, on_err, with_first}
 use Rattle.first_pass_labels.specs.LabelTables.{with_all}
 use Rattle.first_pass_names.specs.TableEntries.{names_of}
@@ -8,12 +8,7 @@ use Rattle.first_pass_places.proofs.footnotes.add_footnote.Goals as goal
 
 pub returns-in_default-clause-value : goal.returns-in_default-clause-value
 unfolding with_all
-returns-in_default-clause-value c =
-    record {
-      definitions = [];
-      labels = sym (no_footnote (names_of c.args.allocs.now) c.args.index c.args.item.now.body c.in_default.not-FootnoteDefinition);
-      added = refl;
-    }
+returns-in_default-clause-value c = grind (arith, no_footnote)
 
 pub returns-clause-value : goal.returns-clause-value
 unfolding with_all
@@ -25,8 +20,7 @@ returns-clause-value c = record {
 }
 
 pub returns-in_err-key-clause-err : goal.returns-in_err-key-clause-err
-returns-in_err-key-clause-err c =
-    on_err c.from_residual.result (one_label (names_of c.args.allocs.now) c.args.index _ c.args.item.now.body c.in-FootnoteDefinition.is)
+returns-in_err-key-clause-err c = grind (arith, on_err, one_label)
 
 pub returns-in_err-insert_first-clause-err : goal.returns-in_err-insert_first-clause-err
 returns-in_err-insert_first-clause-err c =

@@ -1,4 +1,4 @@
-use Rattle.first_pass_places.proofs.MarkedNodes.{derived_marks}
+use Rattle.first_pass_places.proofs.DerivedNodes.{derived_marks}
 use Rattle.first_pass_places.proofs.RangeBoundaries.{names_between}
 use Rattle.first_pass_places.proofs.laws.names_have_whole_characters.Goals as goal
 

@@ -84,12 +84,10 @@ returns-in-Closes g c =
     }
 
 pub from_place-line-requires : goal.from_place-line-requires
-from_place-line-requires g c =
-    omega (arith, c.judge-verdict.ensures.next)
+from_place-line-requires g c = grind arith
 
 pub append_raw_line-requires-clause-order : goal.append_raw_line-requires-clause-order
-append_raw_line-requires-clause-order g c =
-    omega (arith, ap (λ l. l.start) c.from_place-line.ensures.line, ap (λ l. l.«end») c.from_place-line.ensures.line, c.judge-verdict.ensures.next)
+append_raw_line-requires-clause-order g c = grind arith
 
 -- the line is appended
 abbrev appended : (g : _) (c : In_ok-append_raw_line g) → LineAppended (range_of (g.J.JudgesLines.kinds c.args.judge.now))
@@ -135,7 +133,4 @@ loop-ix-preserved g c =
     }
 
 pub returns-clause-lines : goal.returns-clause-lines
-returns-clause-lines g c =
-    lines_end c.loop-ix.invariant.read c.loop-ix.ix c.loop-ix.ix (extent_at_end c.args.source.now.text.now
-    (path_of c.args.source.now.options c.args.tree.now) (g.J.JudgesLines.judges c.args.judge.now) c.loop-ix.ix
-    (omega (arith, c.loop-ix-test.false, c.loop-ix.invariant.boundary.0)))
+returns-clause-lines g c = grind (arith, lines_end, extent_at_end)

@@ -1,4 +1,4 @@
-use Rattle.std.proofs.Common.{◌≡◌, ◌+◌, ◌<◌, drop, length, ap, sym, ◌∙◌, arith}
+use Rattle.std.proofs.Common.{◌≡◌, ◌+◌, ◌<◌, drop, ap, sym, ◌∙◌, arith}
 use Rattle.first_pass_grammar.proofs.Common.{indent, place_at, offset, IsPlaceOf, unindented, closing_fence_len}
 use Rattle.first_pass_raw.proofs.FencedLemmas.{indented_place, closing_end}
 use Rattle.first_pass_raw.proofs.fenced_code.closing_fence.Goals as goal
@@ -12,16 +12,10 @@ place c = indented_place c.args.text.now c.args.start c.bytes_scanned.result c.a
     c.scan_space.ensures.value c.scan_space.ensures.rest c.bytes_scanned.ensures
 
 pub overflow_add-at : goal.overflow_add-at
-overflow_add-at c =
-    let p = place (goal.at.overflow_add-at c).After-bytes_scanned in
-    let w = (p.2).within in
-    omega (arith, p.1, w, ap length c.as_bytes-bytes.ensures.value, c.as_bytes-bytes.ensures.len)
+overflow_add-at c = grind (arith, place)
 
 pub rest_of-requires : goal.rest_of-requires
-rest_of-requires c =
-    let p = place (goal.at.rest_of-requires c).After-bytes_scanned in
-    let w = (p.2).within in
-    omega (arith, p.1, w, ap length c.as_bytes-bytes.ensures.value)
+rest_of-requires c = grind (arith, place)
 
 pub returns-in_err-size : goal.returns-in_err-size
 returns-in_err-size c =

@@ -1,4 +1,4 @@
-use Rattle.std.proofs.Common.{length, IsUtf8, refl, ap, subst, arith}
+use Rattle.std.proofs.Common.{refl, subst, arith}
 use Rattle.first_pass_grammar.proofs.Common.{FencedCodeBlock, NamesInfo, fence_judge, document, range_text}
 use Rattle.first_pass_names.specs.TableEntries.{names_of}
 use Rattle.first_pass_open.proofs.PathLemmas.{open_are_in}
@@ -9,16 +9,10 @@ use Rattle.first_pass_raw.proofs.fenced_code.parse_fenced_code_block.Goals as go
 use Rattle.first_pass_raw.proofs.fenced_code.parse_fenced_code_block.Goals.{In_ok-lines}
 
 pub overflow_add-start_ix : goal.overflow_add-start_ix
-overflow_add-start_ix c =
-    let b = fence_end c.args.source.now.text.now c.args.start_ix c.args.fence.now.count c.args.fence.now.byte
-    (subst IsUtf8 c.as_bytes-bytes.ensures.value c.as_bytes-bytes.ensures.utf8) c.requires.boundary c.requires.fence in
-    omega (arith, b.0, c.as_bytes-bytes.ensures.len, ap length c.as_bytes-bytes.ensures.value)
+overflow_add-start_ix c = grind (arith, fence_end)
 
 pub info_string-requires : goal.info_string-requires
-info_string-requires c = record {
-  boundary = fence_end c.args.source.now.text.now c.args.start_ix c.args.fence.now.count c.args.fence.now.byte
-      (subst IsUtf8 c.as_bytes-bytes.ensures.value c.as_bytes-bytes.ensures.utf8) c.requires.boundary c.requires.fence;
-}
+info_string-requires c = grind (arith, fence_end)
 
 pub read_lines-requires-clause-boundary : goal.read_lines-requires-clause-boundary
 read_lines-requires-clause-boundary c =

@@ -11,7 +11,4 @@ returns-in-None-clause-value c =
     (λ k l. not_from_false _ (false_from_ne_true _ (c.in-None.ensures k (omega arith) l))) (λ l. absurd (omega arith)))
 
 pub returns-in-Some-clause-value : goal.returns-in-Some-clause-value
-returns-in-Some-clause-value c =
-    let e = c.in-Some.ensures in
-    sym (prefix_len_is (is_unmarked c.args.fence_byte) c.args.bytes.now _ 0 (omega (arith, e.0.high))
-    (λ k l. not_from_false _ (false_from_ne_true _ (e.0.before k (omega arith) l))) (λ l. not_from_true _ e.1))
+returns-in-Some-clause-value c = grind (arith, prefix_len_is, not_from_false, false_from_ne_true, not_from_true)

@@ -1,5 +1,5 @@
-use Rattle.std.proofs.Common.{◌≡◌, IsCharBoundary, subst}
-use Rattle.first_pass_grammar.proofs.Common.{Item, HtmlBlock, Options, Forest, IsForest, range_html}
+use Rattle.std.proofs.Common.{◌≡◌, IsCharBoundary, arith}
+use Rattle.first_pass_grammar.proofs.Common.{HtmlBlock, Options, range_html}
 use Rattle.first_pass_open.specs.OpenBlock.{opened_block}
 use Rattle.first_pass_open.proofs.PathLemmas.{open_are_in}
 use Rattle.first_pass_names.specs.TableEntries.{names_of}
@@ -15,15 +15,12 @@ no_options = record { 0 = 0 }
 
 line : (c : In_ok-append_raw_line) → AppendsRaw range_html c.args.text.now (names_of c.append_raw_line.new.allocs) c.args.start.now.columns c.args.start.now.at
     c.next_line-next.result (opened_block c.args.tree.now c.args.start.now.at HtmlBlock) c.append_raw_line.new.tree
-line c =
-    subst (λ (f : Forest Item). AppendsRaw range_html c.args.text.now (names_of c.append_raw_line.new.allocs) c.args.start.now.columns c.args.start.now.at
-    c.next_line-next.result f c.append_raw_line.new.tree) c.in_ok-open_block.ensures.tree c.in_ok-append_raw_line.ensures.line
+line c = grind arith
 
 -- where the next line begins
 next : (c : In_ok-append_raw_line)
     → (c.next_line-next.result ≡ after_line_at c.args.text.now c.args.start.now.at) × IsCharBoundary c.args.text.now c.next_line-next.result
-next c =
-    first_read c.args.text.now _ c.args.start.now.at _ c.as_bytes.ensures.utf8 c.requires.boundary c.as_bytes.ensures.value c.next_line-next.ensures.value
+next c = grind (arith, first_read)
 
 pub returns-clause-next : goal.returns-clause-next
 returns-clause-next c = next c
@@ -32,11 +29,7 @@ pub returns-clause-line : goal.returns-clause-line
 returns-clause-line c = line c
 
 pub returns-clause-path : goal.returns-clause-path
-returns-clause-path c = λ options.
-    let opened : Forest Item = opened_block c.args.tree.now c.args.start.now.at HtmlBlock in
-    let forest = subst (IsForest {T = Item}) c.in_ok-open_block.ensures.tree c.recall_forest-2.ensures in
-    first_path options c.args.tree.now (line c) (next c).0
-    (open_are_in c.args.tree.now.nodes c.args.tree.now.spine c.recall_forest.ensures.opened) (open_are_in opened.nodes opened.spine forest.opened)
+returns-clause-path c = grind (arith, first_path, line, next, open_are_in)
 
 pub returns-clause-apart : goal.returns-clause-apart
 returns-clause-apart c = first_apart no_options c.args.tree.now (line c) (next c).0

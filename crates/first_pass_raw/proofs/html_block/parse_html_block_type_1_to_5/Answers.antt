@@ -19,9 +19,7 @@ pub returns-then-holds_end-clause-boundary : goal.returns-then-holds_end-clause-
 returns-then-holds_end-clause-boundary c = (omega (arith, c.in_ok-end.ensures.next.0), c.in_ok-end.ensures.next.1)
 
 pub close_block-requires-2 : goal.close_block-requires-2
-close_block-requires-2 c =
-    more_open c.args.source.now.options c.args.tree.now c.in_ok-end.ensures.line c.in_ok-end.ensures.next.0 c.in_ok-lines.ensures.more.names
-    c.in_ok-lines.ensures.lines
+close_block-requires-2 c = grind (arith, more_open)
 
 pub returns-clause-block : goal.returns-clause-block
 returns-clause-block c = λ p i.

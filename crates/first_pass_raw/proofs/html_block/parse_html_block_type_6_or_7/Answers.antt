@@ -1,10 +1,9 @@
+use Rattle.std.proofs.Common.{arith}
 use Rattle.first_pass_raw.proofs.HtmlLemmas.{more_open, html_more, blank_extent}
 use Rattle.first_pass_raw.proofs.html_block.parse_html_block_type_6_or_7.Goals as goal
 
 pub close_block-requires : goal.close_block-requires
-close_block-requires c =
-    more_open c.args.source.now.options c.args.tree.now c.in_ok-next.ensures.line c.in_ok-next.ensures.next.0 c.in_ok-lines.ensures.more.names
-    c.in_ok-lines.ensures.lines
+close_block-requires c = grind (arith, more_open)
 
 pub returns-clause-block : goal.returns-clause-block
 returns-clause-block c = λ p i.

@@ -1,4 +1,4 @@
-use Rattle.std.proofs.Common.{◌≡◌, ◌<◌, ◌≤◌, false, length, is_some, IsCharBoundary, ◌+◌, refl, ap, sym, subst, ◌∙◌, arith}
+use Rattle.std.proofs.Common.{◌≡◌, ◌<◌, ◌≤◌, false, is_some, IsCharBoundary, ◌+◌, refl, ap, sym, subst, ◌∙◌, arith}
 use Rattle.first_pass_grammar.proofs.Common.{Item, IndentCodeBlock, Forest, IsForest, blank_len, joins_none-fresh, document, range_text}
 use Rattle.first_pass_open.specs.OpenBlock.{opened_block}
 use Rattle.first_pass_open.specs.Path.{path_of, has_quote_after}
@@ -108,10 +108,7 @@ lines-preserved c =
     }
 
 pub lines-smaller : goal.lines-smaller
-lines-smaller c =
-    let later : c.lines.next < c.in_ok-next-2.next = (line_ends (goal.at.lines-smaller c).In_ok-next-2).1 in
-    let within : c.in_ok-next-2.next ≤ length c.args.source.now.text.now = c.in_ok-next-2.ensures.within in
-    omega arith
+lines-smaller c = grind (arith, line_ends)
 
 pub cut_after-requires : goal.cut_after-requires
 cut_after-requires c =

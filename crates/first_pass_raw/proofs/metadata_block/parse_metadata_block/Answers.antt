@@ -1,4 +1,4 @@
-use Rattle.std.proofs.Common.{refl}
+use Rattle.std.proofs.Common.{refl, arith}
 use Rattle.first_pass_grammar.proofs.Common.{MetadataBlock, document, range_text, metadata_judge}
 use Rattle.first_pass_names.specs.TableEntries.{names_of}
 use Rattle.first_pass_open.proofs.PathLemmas.{open_are_in}
@@ -8,9 +8,7 @@ use Rattle.first_pass_raw.proofs.metadata_block.parse_metadata_block.Goals as go
 use Rattle.first_pass_raw.proofs.metadata_block.parse_metadata_block.Goals.{In_ok-lines}
 
 pub read_lines-requires-clause-boundary : goal.read_lines-requires-clause-boundary
-read_lines-requires-clause-boundary c =
-    (first_read c.args.source.now.text.now _ c.args.start_ix _ c.as_bytes.ensures.utf8 c.requires.boundary c.as_bytes.ensures.value
-    c.next_line-first.ensures.value).1
+read_lines-requires-clause-boundary c = grind (arith, first_read)
 
 -- The block is opened, and its lines are appended.
 abbrev opened : (c : In_ok-lines) → OpenedAt range_text (document c.args.source.now.text.now c.args.source.now.options (names_of c.read_lines.new.allocs))

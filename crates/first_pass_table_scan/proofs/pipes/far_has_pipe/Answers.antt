@@ -7,6 +7,4 @@ pub returns-in-None : goal.returns-in-None
 returns-in-None c = no_pipe_in c.args.bytes.now (λ k l. not_from_false _ (false_from_ne_true _ (c.in-None.ensures k (omega arith) l)))
 
 pub returns-in-Some : goal.returns-in-Some
-returns-in-Some c =
-    let e = c.in-Some.ensures in
-    pipe_at c.args.bytes.now c.in-Some.at e.0.high (λ k l. not_from_false _ (false_from_ne_true _ (e.0.before k (omega arith) l))) (not_from_true _ e.1)
+returns-in-Some c = grind (arith, pipe_at, not_from_false, false_from_ne_true, not_from_true)

@@ -2,7 +2,7 @@ use Rattle.std.proofs.Common.{◌≡◌, ℕ, ◌+◌, ◌≤◌, List, length, 
 use Rattle.std.proofs.lemmas.Simd.{zip2_splat, length-chunk}
 use lib.Lanes.{chunk, zip2}
 use Rattle.first_pass_items.specs.Bytes.{line_feed, carriage_return, pipe}
-use Rattle.first_pass_lines.proofs.LaneLemmas.{joined, run_in}
+use Rattle.first_pass_lines.proofs.LaneLemmas.{run_in}
 use Rattle.first_pass_lines.proofs.MaskLemmas.{mask_within}
 use Rattle.first_pass_table_scan.specs.Pipes.{is_unpiped}
 use Rattle.first_pass_table_scan.proofs.LowestBits.{none_set, lowest_set, lowest_within}
@@ -13,10 +13,7 @@ lanes : (equal : ℕ → ℕ → ℕ) (bs : List ℕ) (at : ℕ) → at + 16 ≤
     → let against : ℕ → List ℕ = λ b. zip2 equal (chunk at 16 bs) (replicate 16 b) in
     zip2 bit_or (zip2 bit_or (against line_feed) (against carriage_return)) (against pipe)
     ≡ map (λ x. bit_or (bit_or (equal x line_feed) (equal x carriage_return)) (equal x pipe)) (chunk at 16 bs)
-lanes equal bs at room =
-    let v = chunk at 16 bs in
-    let one = λ (b : ℕ). zip2_splat equal v 16 b (length-chunk at 16 bs room) in
-    joined bit_or _ _ v (joined bit_or _ _ v (one line_feed) (one carriage_return)) (one pipe)
+lanes equal bs at room = grind (arith, zip2_splat, length-chunk)
 
 pub returns-then-mask-eq0-clause-run : goal.returns-then-mask-eq0-clause-run
 returns-then-mask-eq0-clause-run c =

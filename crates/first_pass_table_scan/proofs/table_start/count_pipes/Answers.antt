@@ -10,9 +10,7 @@ returns-clause-pipes c =
     pipes-end row c.loop-at.at (byte_before row c.loop-at.at) c.loop-at.pipes c.loop-at-test.false c.loop-at.invariant.counted.pipes_left
 
 pub returns-clause-end : goal.returns-clause-end
-returns-clause-end c =
-    let row : List ℕ = c.args.row.now in
-    ending-end row c.loop-at.at (byte_before row c.loop-at.at) c.loop-at.end c.loop-at-test.false c.loop-at.invariant.counted.ending
+returns-clause-end c = grind (arith, ending-end)
 
 pub loop-at-init : goal.loop-at-init
 loop-at-init c = record { counted = record { pipes_left = omega arith; ending = refl } }
@@ -31,9 +29,4 @@ loop-at-preserved c =
     ]
 
 pub overflow_add-pipes : goal.overflow_add-pipes
-overflow_add-pipes c =
-    let row : List ℕ = c.args.row.now in
-    let is = open_at row c.loop-at.at ∙ sym c.is_open_pipe.ensures ∙ c.if-is_open_pipe.true in
-    let open_one = pipes-first row c.loop-at.at c.loop-at-test.true is in
-    let counted = c.loop-at.invariant.counted.pipes_left in
-    omega (arith, pipes-fit 0 row)
+overflow_add-pipes c = grind (arith, open_at, pipes-first, pipes-fit)

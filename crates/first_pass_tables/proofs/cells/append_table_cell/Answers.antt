@@ -1,4 +1,4 @@
-use Rattle.std.proofs.Common.{ap, ◌∙◌, refl, sym, List, [], ℕ, false}
+use Rattle.std.proofs.Common.{ap, ◌∙◌, sym, List, [], ℕ, false, arith}
 use Rattle.first_pass_grammar.proofs.Common.{Item, TableCell, added, block_of, add_text}
 use Rattle.first_pass_names.specs.TableEntries.{names_of}
 use Rattle.first_pass_tokens.proofs.ChainLemmas.{leaves_text}
@@ -20,7 +20,4 @@ pub returns-in-Some-clause-texts : goal.returns-in-Some-clause-texts
 returns-in-Some-clause-texts c = texts_none (names_of c.args.allocs.now)
 
 pub returns-in-Some-clause-more : goal.returns-in-Some-clause-more
-returns-in-Some-clause-more c = record {
-  names = extends_texts (names_of c.args.allocs.now) (names_of c.args.allocs.now) (texts_none (names_of c.args.allocs.now));
-  entries = refl;
-}
+returns-in-Some-clause-more c = grind (arith, extends_texts, texts_none)

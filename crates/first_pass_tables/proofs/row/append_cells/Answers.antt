@@ -1,68 +1,43 @@
-use Rattle.std.proofs.Common.{Option, IfSome, subst, sym, ap, ◌∙◌, arith}
-use Rattle.first_pass_grammar.proofs.Common.{Item, Forest, IsChild, TreeIndex, Spot, spot, document}
+use Rattle.std.proofs.Common.{refl, subst, sym, ◌∙◌, arith}
+use Rattle.first_pass_grammar.proofs.Common.{Forest, Item}
 use Rattle.first_pass_names.specs.TableEntries.{names_of}
 use Rattle.first_pass_names.proofs.NameLemmas.{extends_both, texts_both}
-use Rattle.first_pass_tables.specs.Appends.{without_after}
-use Rattle.first_pass_tables.proofs.RowDrops.{HaveSame, has_more, none_more, current_is_child, same_dropped, still_open_node, first_kept, ended_within}
+use Rattle.first_pass_tables.proofs.RowDrops.{HaveSame, dropped, still_open_node, none_more, has_more, first_kept, ended_within}
 use Rattle.first_pass_tables.proofs.row.append_cells.Goals as goal
 use Rattle.first_pass_tables.proofs.row.append_cells.Goals.{then-excess-gt0, else-excess-gt0}
 
 pub drop_beyond-requires : goal.drop_beyond-requires
 drop_beyond-requires c =
-    let d = document c.args.source.now.text.now c.args.source.now.options (names_of c.append_excess_cells.new.allocs) in
-    let tree = c.append_some_cells.new.tree in
-    let over = c.append_excess_cells.new.tree in
     let short = c.recall_length.ensures in
     let some = c.if-excess-gt0.true in
-    let mid : Spot = spot c.in_ok-kept.kept.at c.append_some_cells.new.braces in
-    let all = ended_within d _ mid tree over c.in_ok-excess.excess c.append_excess_cells.new.braces (omega arith) c.in_ok-excess.ensures.cells in
-    subst (λ (o : Option TreeIndex). IfSome o (λ ix. IsChild over ix)) (sym c.cur-last.ensures)
-    (current_is_child tree over c.recall_forest.ensures (has_more d mid (spot c.in_ok-excess.excess.at c.append_excess_cells.new.braces)
-    c.in_ok-excess.excess.count tree over (omega arith) all))
+    let far = c.in_ok-kept.ensures.cells.first c.if-kept.false in
+    let all = ended_within c.in_ok-excess.ensures.cells (omega arith) in
+    (dropped _ c.cur-last.ensures c.recall_forest.ensures (still_open_node c.requires.fresh.1 far.0) (has_more all (omega arith))).0
 
 pub returns-clause-cells : goal.returns-clause-cells
 returns-clause-cells c =
-    let before = document c.args.source.now.text.now c.args.source.now.options (names_of c.append_some_cells.new.allocs) in
-    let d = document c.args.source.now.text.now c.args.source.now.options (names_of c.append_excess_cells.new.allocs) in
-    let old = c.args.tree.now in
-    let tree = c.append_some_cells.new.tree in
-    let over = c.append_excess_cells.new.tree in
-    let new = c.if-excess-gt0.tree in
-    let kept = c.in_ok-kept.kept in
-    let excess = c.in_ok-excess.excess in
+    let tree : Forest Item = c.append_some_cells.new.tree in
     let short = c.recall_length.ensures in
     let far = c.in_ok-kept.ensures.cells.first c.if-kept.false in
-    let start : Spot = spot c.args.wanted.start c.args.braces.now in
-    let mid : Spot = spot kept.at c.append_some_cells.new.braces in
-    let stop : Spot = spot excess.at c.append_excess_cells.new.braces in
-    let all = ended_within d _ mid tree over excess c.append_excess_cells.new.braces (omega arith) c.in_ok-excess.ensures.cells in
-    let node = still_open_node before start mid kept.count old tree c.requires.fresh.0 c.requires.fresh.1 far.0 in
-    let same : HaveSame new tree =
+    let all = ended_within c.in_ok-excess.ensures.cells (omega arith) in
+    let same : HaveSame c.if-excess-gt0.tree tree =
     elim c.if-excess-gt0.branch [
       | then-excess-gt0 w ↦
           let some = w.if-excess-gt0.true in
-          same_dropped tree over new c.recall_forest.ensures node (has_more d mid stop excess.count tree over (omega arith) all)
-          (w.tree-is ∙ w.drop_beyond.ensures ∙ ap (without_after over) c.cur-last.ensures)
+          let node = still_open_node c.requires.fresh.1 far.0 in
+          let back = dropped _ c.cur-last.ensures c.recall_forest.ensures node (has_more all (omega arith)) in
+          subst (λ (f : Forest Item). HaveSame f tree) (sym (w.tree-is ∙ w.drop_beyond.ensures ∙ back.1)) (refl, refl)
       | else-excess-gt0 w ↦
           let none = w.if-excess-gt0.false in
-          let same = none_more d mid stop excess.count tree over (omega arith) all in
-          (ap (λ (f : Forest Item). f.nodes) w.tree-is ∙ same.0, ap (λ (f : Forest Item). f.spine) w.tree-is ∙ same.1)
+          subst (λ (f : Forest Item). HaveSame f tree) (sym w.tree-is) (none_more all (omega arith))
     ] in
-    first_kept d c.args.wanted.most start mid kept.count old tree new
-    (record { before = names_of c.append_some_cells.new.allocs; grown = c.in_ok-excess.ensures.more.names; far = far.0 }) far.1
-    (record { stop = stop; count = excess.count; over = over; all = all }) same
+    first_kept all (record { before = names_of c.append_some_cells.new.allocs; grown = c.in_ok-excess.ensures.more.names; far = far.0 }) far.1 same
 
 pub returns-clause-more : goal.returns-clause-more
 returns-clause-more c =
     let dropped = c.in_ok-excess.ensures.more in
     let kept = c.in_ok-kept.ensures.more in
-    record {
-      names = extends_both (names_of c.append_excess_cells.new.allocs) (names_of c.append_some_cells.new.allocs) (names_of c.args.allocs.now) dropped.names
-          kept.names;
-      entries = dropped.entries ∙ kept.entries;
-    }
+    record { names = extends_both _ _ _ dropped.names kept.names; entries = dropped.entries ∙ kept.entries }
 
 pub returns-clause-texts : goal.returns-clause-texts
-returns-clause-texts c =
-    texts_both (names_of c.append_excess_cells.new.allocs) (names_of c.append_some_cells.new.allocs) (names_of c.args.allocs.now) c.in_ok-excess.ensures.texts
-    c.in_ok-kept.ensures.texts
+returns-clause-texts c = texts_both _ _ _ c.in_ok-excess.ensures.texts c.in_ok-kept.ensures.texts

@@ -1,6 +1,5 @@
-use Rattle.std.proofs.Common.{◌≡◌, ◌+◌, ◌<◌, ℕ, List, [], length, Option, IfSome, IsUtf8, slice_index, ◌≤◌, sym, ap, subst, ◌∙◌, arith, slice_range}
-use Rattle.std.proofs.Common.{option_map}
-use Rattle.first_pass_grammar.proofs.Common.{Range, left_brace, before_attributes, heading_attributes_of}
+use Rattle.std.proofs.Common.{◌≡◌, ◌+◌, ℕ, List, length, IsUtf8, sym, ap, subst, ◌∙◌, arith, slice_range, option_map}
+use Rattle.first_pass_grammar.proofs.Common.{Range, before_attributes}
 use Rattle.first_pass_attributes.specs.AttributeBlocks.{inside_block}
 use Rattle.first_pass_text.proofs.AttributeEnds.{none_between, length_between, no_braces, empty_braces, before_none, given_none, content_before, given_not}
 use Rattle.first_pass_text.proofs.AttributeEnds.{given_some, brace_boundary}
@@ -8,10 +7,7 @@ use Rattle.first_pass_text.proofs.attributes.block_text_between.Goals as goal
 use Rattle.first_pass_text.proofs.attributes.block_text_between.Goals.{After-extract_attribute_block_content_from_header_text-length}
 
 pub returns-then-header_end-header_start-clause-none : goal.returns-then-header_end-header_start-clause-none
-returns-then-header_end-header_start-clause-none c =
-    let options = c.args.source.now.options in
-    ap (heading_attributes_of options) (none_between c.args.source.now.text.now c.args.header_start c.args.header_end c.if-header_end-header_start.true)
-    ∙ given_none options [] (empty_braces options)
+returns-then-header_end-header_start-clause-none c = grind (arith, none_between, given_none, empty_braces)
 
 pub returns-then-not-contains-clause-content : goal.returns-then-not-contains-clause-content
 returns-then-not-contains-clause-content c =
@@ -36,9 +32,8 @@ range-text-requires-clause-start_boundary c some =
     let bs : List ℕ = slice_range c.as_bytes.result.now c.args.header_start c.args.header_end in
     let is : bs ≡ slice_range text c.args.header_start c.args.header_end =
     ap (λ (xs : List ℕ). slice_range xs c.args.header_start c.args.header_end) c.as_bytes.ensures.value in
-    let places =
-    subst (λ (o : Option (Range ℕ)). IfSome o (λ r. (r.start ≡ e.result.0 + 1) × (r.start ≤ r.«end») × (r.«end» < length bs))) c.in-Some.is e.ensures.places in
-    let opens = subst (λ (o : Option (Range ℕ)). IfSome o (λ r. slice_index bs e.result.0 ≡ left_brace)) c.in-Some.is e.ensures.opens in
+    let places = rw c.in-Some.is at e.ensures.places in
+    let opens = rw c.in-Some.is at e.ensures.opens in
     brace_boundary text bs c.args.header_start c.args.header_end e.result.0 c.in-Some.inside.start
     (subst IsUtf8 c.as_bytes.ensures.value c.as_bytes.ensures.utf8) is c.requires.to
     (omega (arith, places.0, places.1, places.2)) opens places.0
@@ -47,10 +42,7 @@ range-text-requires-clause-start_boundary c some =
 content_end : (c : After-extract_attribute_block_content_from_header_text-length)
     → c.args.header_start + c.extract_attribute_block_content_from_header_text-length.result.0
     ≡ c.args.header_start + length (before_attributes c.args.source.now.options (slice_range c.args.source.now.text.now c.args.header_start c.args.header_end))
-content_end c =
-    content_before c.args.source.now.options c.args.source.now.text.now c.as_bytes.result.now c.args.header_start c.args.header_end
-    c.extract_attribute_block_content_from_header_text-length.result.0 (sym (c.contains.ensures tt) ∙ c.if-not-contains.false) c.as_bytes.ensures.value
-    c.extract_attribute_block_content_from_header_text-length.ensures.before
+content_end c = grind (arith, content_before)
 
 pub returns-in-None-clause-content : goal.returns-in-None-clause-content
 returns-in-None-clause-content c = content_end (goal.at.returns-in-None-clause-content c).After-extract_attribute_block_content_from_header_text-length
@@ -59,14 +51,10 @@ returns-in-None-clause-content c = content_end (goal.at.returns-in-None-clause-c
 inside : (c : After-extract_attribute_block_content_from_header_text-length)
     → option_map (λ (r : Range ℕ). (r.start, r.«end»)) c.extract_attribute_block_content_from_header_text-length.result.1
     ≡ inside_block (slice_range c.args.source.now.text.now c.args.header_start c.args.header_end)
-inside c = c.extract_attribute_block_content_from_header_text-length.ensures.inside
-    ∙ ap (λ (xs : List ℕ). inside_block (slice_range xs c.args.header_start c.args.header_end)) c.as_bytes.ensures.value
+inside c = grind arith
 
 pub returns-in-None-clause-none : goal.returns-in-None-clause-none
-returns-in-None-clause-none c =
-    given_not c.args.source.now.options (slice_range c.args.source.now.text.now c.args.header_start c.args.header_end)
-    (sym (c.contains.ensures tt) ∙ c.if-not-contains.false) (ap (option_map (λ (r : Range ℕ). (r.start, r.«end»))) (sym c.in-None.is)
-    ∙ inside (goal.at.returns-in-None-clause-none c).After-extract_attribute_block_content_from_header_text-length)
+returns-in-None-clause-none c = grind (arith, given_not, inside)
 
 pub returns-in-Some-clause-content : goal.returns-in-Some-clause-content
 returns-in-Some-clause-content c = content_end (goal.at.returns-in-Some-clause-content c).After-extract_attribute_block_content_from_header_text-length

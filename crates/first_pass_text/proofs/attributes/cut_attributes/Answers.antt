@@ -1,6 +1,6 @@
-use Rattle.std.proofs.Common.{inr, ◌≡◌, ◌+◌, ◌-◌, ◌≤◌, ℕ, arith, List, length, min, sym, ap, subst, ◌∙◌, if◌then◌else◌, slice_range}
-use Rattle.first_pass_grammar.proofs.Common.{suffix_len, Item, is_white, Forest, cut_siblings, chained, before_attributes, heading_attributes_of, chain_end}
-use Rattle.first_pass_grammar.proofs.Common.{chain_bytes, kept_before, Names, Extends, NamesAttributes}
+use Rattle.std.proofs.Common.{inr, ◌≡◌, ◌+◌, ◌-◌, ◌≤◌, ℕ, arith, List, length, sym, ap, ◌∙◌, if◌then◌else◌, slice_range}
+use Rattle.first_pass_grammar.proofs.Common.{Item, Forest, cut_siblings, chained, before_attributes, heading_attributes_of, chain_bytes}
+use Rattle.first_pass_grammar.proofs.Common.{kept_before, Names, Extends, NamesAttributes}
 use Rattle.first_pass_tokens.proofs.ChainLemmas.{cut_siblings-chained}
 use Rattle.first_pass_names.specs.TableEntries.{names_of}
 use Rattle.first_pass_text.proofs.AttributeEnds.{clipped, cut_end, block_named, none_named, cut_by, cut_none, siblings_fewer}
@@ -17,18 +17,12 @@ module _ (c : After-is_some) (f : Forest Item) (chain : List Item) (bare : IsLas
 
   -- the bytes of the chain are the heading's text
   same_bytes : slice_range c.args.source.now.text.now c.args.start c.min-end.result ≡ bytes
-  same_bytes =
-      let text : List ℕ = c.args.source.now.text.now in
-      let ends : c.min-end.result ≡ min (chain_end c.args.start chain) (length text) =
-      c.min-end.ensures ∙ ap (λ n. min n (length text)) (c.chain_end.ensures f chain bare is) in
-      ap (slice_range text c.args.start) ends ∙ clipped text c.args.start (chain_end c.args.start chain)
+  same_bytes = grind (arith, clipped)
 
   -- the index names their attributes
   named_bytes : (more : Names) → Extends more (names_of c.name_attributes.new.allocs)
       → NamesAttributes more c.in_ok-content_end.index (heading_attributes_of c.args.source.now.options bytes)
-  named_bytes more e =
-      subst (λ xs. NamesAttributes more c.in_ok-content_end.index (heading_attributes_of c.args.source.now.options xs)) same_bytes
-      (c.in_ok-content_end.ensures.named more e)
+  named_bytes more e = grind (arith, same_bytes)
 
 pub returns-then-is_some-clause-cut : goal.returns-then-is_some-clause-cut
 returns-then-is_some-clause-cut c f chain bare is =
@@ -43,9 +37,8 @@ returns-then-is_some-clause-cut c f chain bare is =
     let named = named_bytes at_end f chain bare is in
     let (block, at) = block_named options bs names c.in_ok-content_end.index (named names (extends_none names)) (sym c.is_some.ensures ∙ c.if-is_some.true) in
     let stop : ℕ = c.in_ok-content_end.content_end in
-    let cut = cut_by text options start c.args.broken chain block stop c.white_at_cut.result at content
-    (c.white_at_cut.ensures.value
-    ∙ ap (λ (xs : List ℕ). if c.args.broken then 0 else suffix_len is_white (slice_range xs start stop)) c.as_bytes.ensures.value) in (
+    let white = rw c.as_bytes.ensures.value at c.white_at_cut.ensures.value in
+    let cut = cut_by text options start c.args.broken chain block stop c.white_at_cut.result at content white in (
       c.truncate_siblings.ensures ∙ ap (λ (g : Forest Item). cut_siblings g (stop - c.white_at_cut.result)) is
           ∙ cut_siblings-chained f chain (stop - c.white_at_cut.result) bare.last bare.none ∙ ap (chained f) (sym cut),
       named,
@@ -77,16 +70,14 @@ returns-then-is_some-clause-children c =
     let p = kept_place text options start last c.args.broken block within at in
     let stop : ℕ = c.in_ok-content_end.content_end in
     let same = cut_end text options start last c.args.broken block stop c.white_at_cut.result at c.in_ok-content_end.ensures.content
-    (c.white_at_cut.ensures.value
-    ∙ ap (λ (xs : List ℕ). if c.args.broken then 0 else suffix_len is_white (slice_range xs start stop)) c.as_bytes.ensures.value) in
+    (rw c.as_bytes.ensures.value at c.white_at_cut.ensures.value) in
     inr (start + kept_before c.args.broken block.opening bs, p.0, p.2, c.truncate_siblings.ensures ∙ ap (cut_siblings c.args.tree.now) (sym same))
 
 pub returns-then-is_some-clause-entry : goal.returns-then-is_some-clause-entry
 returns-then-is_some-clause-entry c =
-    given_entry (names_of c.name_attributes.new.allocs) c.in_ok-content_end.index _
-    (c.in_ok-content_end.ensures.named (names_of c.name_attributes.new.allocs) (extends_none (names_of c.name_attributes.new.allocs)))
+    let names = names_of c.name_attributes.new.allocs in
+    given_entry names c.in_ok-content_end.index _ (c.in_ok-content_end.ensures.named names (extends_none names))
 
 pub returns-then-is_some-clause-node_bound : goal.returns-then-is_some-clause-node_bound
 returns-then-is_some-clause-node_bound c =
-    subst (λ (f : Forest Item). length f.nodes ≤ length c.args.tree.now.nodes) (sym c.truncate_siblings.ensures)
-    (siblings_fewer c.args.tree.now (c.in_ok-content_end.content_end - c.white_at_cut.result))
+    rw c.truncate_siblings.ensures (siblings_fewer c.args.tree.now (c.in_ok-content_end.content_end - c.white_at_cut.result))

@@ -1,31 +1,23 @@
-use Rattle.std.proofs.Common.{◌≤◌, sym, ap, ◌∙◌, slice_get, subst, length, Option, IfSome, IsSomeAnd}
-use Rattle.first_pass_grammar.proofs.Common.{Item, Heading, Forest, document, length-modify}
+use Rattle.std.proofs.Common.{◌≤◌, sym, ap, ◌∙◌, subst, length, arith}
+use Rattle.first_pass_grammar.proofs.Common.{Item, Heading, Forest, length-modify}
 use Rattle.first_pass_open.proofs.BlockLemmas.{open_node_in}
-use Rattle.first_pass_names.specs.TableEntries.{names_of}
-use Rattle.first_pass_text.specs.CutTexts.{CutsBlock, CutsChildren}
 use Rattle.first_pass_text.proofs.attributes.make_heading.Goals as goal
 
 pub index-requires : goal.index-requires
 index-requires c = open_node_in c.args.tree.now c.args.node_ix c.recall_forest.ensures c.requires.open
 
 pub set_body-requires : goal.set_body-requires
-set_body-requires c =
-    open_node_in c.cut_attributes.new.tree c.args.node_ix c.recall_forest-2.ensures (ap (λ s. slice_get s 0) c.in_ok-index.ensures.open ∙ c.requires.open)
+set_body-requires c = grind (arith, open_node_in)
 
 pub returns-clause-heading : goal.returns-clause-heading
-returns-clause-heading c =
-    let d = document c.args.source.now.text.now c.args.source.now.options (names_of c.cut_attributes.new.allocs) in
-    record {
-      index = c.in_ok-index.index;
-      cut = c.cut_attributes.new.tree;
-      cuts = subst (λ (o : Option Item). IfSome o (λ x. CutsBlock d x.start c.args.underlined.broken c.args.tree.now c.cut_attributes.new.tree
-          c.in_ok-index.index))
-          (sym c.index.ensures) c.in_ok-index.ensures.cut;
-      children = subst (λ (o : Option Item). IsSomeAnd o (λ x. CutsChildren d.text x.start c.args.tree.now c.cut_attributes.new.tree))
-          (sym c.index.ensures) c.in_ok-index.ensures.children;
-      entry = c.in_ok-index.ensures.entry;
-      tree_is = c.set_body.ensures;
-    }
+returns-clause-heading c = record {
+  index = c.in_ok-index.index;
+  cut = c.cut_attributes.new.tree;
+  cuts = rw c.index.ensures c.in_ok-index.ensures.cut;
+  children = rw c.index.ensures c.in_ok-index.ensures.children;
+  entry = c.in_ok-index.ensures.entry;
+  tree_is = c.set_body.ensures;
+}
 
 pub returns-clause-node_bound : goal.returns-clause-node_bound
 returns-clause-node_bound c =

@@ -1,17 +1,10 @@
-use Rattle.std.proofs.Common.{◌≡◌, ◌<◌, ◌≤◌, ◌⊎◌, inl, inr, ℕ, ◌-◌, ◌==◌, ◌||◌, nat_lt, List, length, take, sym, ap, ◌∙◌, arith, if◌then◌else◌}
+use Rattle.std.proofs.Common.{◌≡◌, ◌<◌, ◌≤◌, ◌⊎◌, ℕ, ◌-◌, ◌==◌, ◌||◌, nat_lt, List, length, take, sym, ◌∙◌, arith, if◌then◌else◌}
 use Rattle.first_pass_grammar.proofs.Common.{suffix_len, nat_tests, space, number_sign, is_space_or_line_end, kept_len}
 use Rattle.first_pass_text.proofs.KeptBytes.{kept_counted, kept_unclosed}
 use Rattle.first_pass_text.proofs.heading.kept_len.Goals as goal
 
--- by the counts at the end
-kept_by : (text : List ℕ) (t o n : ℕ)
-    → t ≡ length text - suffix_len is_space_or_line_end text → o ≡ t - suffix_len (λ b. b == number_sign) (take t text)
-    → n ≡ suffix_len (λ b. b == space) (take o text) → kept_len text ≡ (if (o == 0) || nat_lt 0 n then o - n else t)
-kept_by text t o n e f g = rw (g, f, e) (kept_counted text)
-
 choose_taken : (t o n : ℕ) → (o ≡ 0) ⊎ (0 < n) → (if (o == 0) || nat_lt 0 n then o - n else t) ≡ o - n
-choose_taken t o n (inl h) = grind (arith, nat_tests, h)
-choose_taken t o n (inr h) = grind (arith, nat_tests, h)
+choose_taken t o n h = grind (arith, nat_tests, h)
 
 choose_kept : (t o n : ℕ) → (o ≡ 0 → ⊥) → n ≤ 0 → (if (o == 0) || nat_lt 0 n then o - n else t) ≡ t
 choose_kept t o n h k = grind (arith, nat_tests, h, k)
@@ -21,15 +14,10 @@ counted : (text front front' : List ℕ) (a b n : ℕ)
     → a ≡ suffix_len is_space_or_line_end text → front ≡ take (length text - a) text → b ≡ suffix_len (λ b. b == number_sign) front
     → front' ≡ take (length text - a - b) text → n ≡ suffix_len (λ b. b == space) front'
     → kept_len text ≡ (if (length text - a - b == 0) || nat_lt 0 n then length text - a - b - n else length text - a)
-counted text front front' a b n e f g h k =
-    kept_by text (length text - a) (length text - a - b) n (ap (λ z. length text - z) e)
-    (ap (λ z. length text - a - z) (g ∙ ap (suffix_len (λ b. b == number_sign)) f)) (k ∙ ap (suffix_len (λ b. b == space)) h)
+counted text front front' a b n e f g h k = rw (k, h, g, f, e) (kept_counted text)
 
 pub returns-then-spaces-gt0-clause-value : goal.returns-then-spaces-gt0-clause-value
-returns-then-spaces-gt0-clause-value c =
-    sym (counted c.args.text.now _ _ _ _ _ c.trailing_space_len.ensures.value c.first_bytes.ensures c.trailing_run-signs.ensures.value c.first_bytes-2.ensures
-    c.trailing_run-spaces.ensures.value
-    ∙ choose_taken _ _ _ (elim c.if-spaces-gt0.either [ inl h ↦ inl h | inr h ↦ inr h.1 ]))
+returns-then-spaces-gt0-clause-value c = grind (arith, counted, choose_taken)
 
 pub returns-else-spaces-gt0-clause-value : goal.returns-else-spaces-gt0-clause-value
 returns-else-spaces-gt0-clause-value c =
@@ -38,5 +26,4 @@ returns-else-spaces-gt0-clause-value c =
     ∙ choose_kept _ _ _ c.if-spaces-gt0.false.0 c.if-spaces-gt0.false.1)
 
 pub returns-then-signs-eq0-clause-value : goal.returns-then-signs-eq0-clause-value
-returns-then-signs-eq0-clause-value c =
-    sym (kept_unclosed c.args.text.now _ _ _ c.trailing_space_len.ensures.value c.first_bytes.ensures c.trailing_run-signs.ensures.value c.if-signs-eq0.true)
+returns-then-signs-eq0-clause-value c = grind (arith, kept_unclosed)

@@ -33,9 +33,8 @@ line_named : (c : In_ok-opening) → NamesAttributes (names_of c.name_attributes
     (heading_attributes_of c.args.source.now.options (line_from c.args.source.now.text.now c.args.start))
 line_named c =
     let names = names_of c.name_attributes.new.allocs in
-    subst (λ xs. NamesAttributes names c.in_ok-opening.index (heading_attributes_of c.args.source.now.options xs))
-    (line_between c.args.source.now.text.now c.args.start c.next_line-line_end.result (line_ends c))
-    (c.in_ok-opening.ensures.named names (extends_none names))
+    rw (line_between c.args.source.now.text.now c.args.start c.next_line-line_end.result (line_ends c))
+    at (c.in_ok-opening.ensures.named names (extends_none names))
 
 pub returns-then-is_none-clause-place : goal.returns-then-is_none-clause-place
 returns-then-is_none-clause-place c =

@@ -1,6 +1,5 @@
-use Rattle.std.proofs.Common.{◌≡◌, ◌≤◌, ℕ, List, [], length, IfSome, IsUtf8, ap, subst, ◌∙◌, slice_range, unwrap_or}
-use Rattle.first_pass_grammar.proofs.Common.{text_upto, Item, Heading, level_number, added, block_of, add_tokens, close_break, chained, document, kept_len}
-use Rattle.first_pass_grammar.proofs.Common.{heading_chain, heading_text_at, IsHeading}
+use Rattle.std.proofs.Common.{◌≡◌, ◌≤◌, ℕ, List, length, IfSome, IsUtf8, ap, subst, ◌∙◌, arith}
+use Rattle.first_pass_grammar.proofs.Common.{IsHeading, text_upto, Item, Heading, added, block_of, chained, document}
 use Rattle.first_pass_names.specs.TableEntries.{names_of}
 use Rattle.first_pass_grammar.proofs.Names.MoreNames.{extends_both}
 use Rattle.first_pass_open.specs.Between.{line_end_at}
@@ -12,11 +11,7 @@ use Rattle.first_pass_text.proofs.heading.parse_atx_heading.Goals as goal
 use Rattle.first_pass_text.proofs.heading.parse_atx_heading.Goals.{After-opening_of}
 
 pub heading_text-requires-clause-opened : goal.heading_text-requires-clause-opened
-heading_text-requires-clause-opened c =
-    let x : Item = record { start = c.args.start; «end» = 0; body = Heading c.args.atx_level c.in_ok-place.index } in
-    let ix = c.in_ok-heading_ix.heading_ix in
-    let at = c.in_ok-heading_ix.ensures.index in
-    just_pushed c.args.tree.now c.open_block.new.tree x ix at (opened_is c.args.tree.now c.open_block.new.tree x ix at c.in_ok-heading_ix.ensures.tree)
+heading_text-requires-clause-opened c = grind (arith, just_pushed, opened_is)
 
 -- the attribute block and the start of the content are in the text
 block_fits : (c : After-opening_of) → IfSome c.opening_of.result (λ e. e ≤ length c.args.source.now.text.now)
@@ -33,17 +28,7 @@ pub heading_text-requires-clause-within : goal.heading_text-requires-clause-with
 heading_text-requires-clause-within c = (block_fits (goal.at.heading_text-requires-clause-within c).After-opening_of).1
 
 pub close_block-requires : goal.close_block-requires
-close_block-requires c =
-    let g = c.args.tree.now in
-    let x : Item = record { start = c.args.start; «end» = 0; body = Heading c.args.atx_level c.in_ok-place.index } in
-    let ix = c.in_ok-heading_ix.heading_ix in
-    let at = c.in_ok-heading_ix.ensures.index in
-    let opened = opened_is g c.open_block.new.tree x ix at c.in_ok-heading_ix.ensures.tree in
-    let start : ℕ = c.heading_text_start-header_start.result in
-    let content : List ℕ = slice_range c.args.source.now.text.now start (unwrap_or c.opening_of.result c.in_ok-next.next) in
-    let a = c.in_ok-next.ensures.line in
-    let chain : List Item = heading_chain (kept_len content) start (close_break a.answer.1 (add_tokens [] a.tokens)) in
-    still_open g c.heading_text.new.tree x chain ix at (a.tree_is ∙ ap (λ f. chained f chain) opened)
+close_block-requires c = grind (arith, opened_is, still_open)
 
 pub returns-clause-block : goal.returns-clause-block
 returns-clause-block c =
@@ -66,8 +51,7 @@ returns-clause-block c =
     c.in_ok-next.ensures.line
     (λ more e. c.in_ok-place.ensures.named more
     (extends_both more names (names_of c.name_attribute_block.new.allocs) e c.in_ok-next.ensures.more.names)) in
-    let begins : start ≡ heading_text_at text c.args.start (level_number c.args.atx_level) =
-    c.heading_text_start-header_start.ensures.value ∙ ap (λ t. heading_text_at t c.args.start (level_number c.args.atx_level)) c.as_bytes.ensures.value in
+    let begins = rw c.as_bytes.ensures.value at c.heading_text_start-header_start.ensures.value in
     record {
       index = c.in_ok-place.index;
       chain = chain;
@@ -80,19 +64,13 @@ returns-clause-block c =
 
 pub returns-clause-fits : goal.returns-clause-fits
 returns-clause-fits c from following starts =
-    let u = subst IsUtf8 c.as_bytes.ensures.value c.as_bytes.ensures.utf8 in
-    heading_fits (document c.args.source.now.text.now c.args.source.now.options (names_of c.heading_text.new.allocs)) c.args.start c.args.atx_level
-    c.args.tree.now c.close_block.new.tree c.line_end_of-end.result u starts c.requires.heading (returns-clause-block c) from following
+    heading_fits (returns-clause-block c) (subst IsUtf8 c.as_bytes.ensures.value c.as_bytes.ensures.utf8) starts c.requires.heading from following
 
 pub returns-clause-more : goal.returns-clause-more
 returns-clause-more c =
     let text = c.in_ok-next.ensures.more in
     let named = c.in_ok-place.ensures.more in
-    record {
-      names =
-          extends_both (names_of c.heading_text.new.allocs) (names_of c.name_attribute_block.new.allocs) (names_of c.args.allocs.now) text.names named.names;
-      entries = text.entries ∙ named.entries;
-    }
+    record { names = extends_both _ _ _ text.names named.names; entries = text.entries ∙ named.entries }
 
 pub returns-in-Some-clause-block : goal.returns-in-Some-clause-block
 returns-in-Some-clause-block c =
@@ -102,8 +80,7 @@ returns-in-Some-clause-block c =
     let start : ℕ = c.heading_text_start-header_start.result in
     let next = c.in-Some.plain.next in
     let item : Item = record { start = c.args.start; «end» = next; body = Heading c.args.atx_level c.in_ok-place.index } in
-    let begins : start ≡ heading_text_at text c.args.start (level_number c.args.atx_level) =
-    c.heading_text_start-header_start.ensures.value ∙ ap (λ t. heading_text_at t c.args.start (level_number c.args.atx_level)) c.as_bytes.ensures.value in
+    let begins = rw c.as_bytes.ensures.value at c.heading_text_start-header_start.ensures.value in
     let (chain, kids_are, ends, heads) = plain_read (document text options (names_of c.name_attribute_block.new.allocs)) start next c.in-Some.plain.text_end
     c.opening_of.result c.in_ok-place.place c.in_ok-place.index c.in_ok-place.ensures.place c.opening_of.ensures c.in-Some.ensures.whole c.in-Some.ensures.plain
     c.in_ok-place.ensures.named in
@@ -117,9 +94,7 @@ returns-in-Some-clause-block c =
 
 pub returns-in-Some-clause-fits : goal.returns-in-Some-clause-fits
 returns-in-Some-clause-fits c from following starts =
-    let u = subst IsUtf8 c.as_bytes.ensures.value c.as_bytes.ensures.utf8 in
-    heading_fits (document c.args.source.now.text.now c.args.source.now.options (names_of c.name_attribute_block.new.allocs)) c.args.start c.args.atx_level
-    c.args.tree.now c.append_with_text.new.self c.in-Some.plain.next u starts c.requires.heading (returns-in-Some-clause-block c) from following
+    heading_fits (returns-in-Some-clause-block c) (subst IsUtf8 c.as_bytes.ensures.value c.as_bytes.ensures.utf8) starts c.requires.heading from following
 
 pub scan_plain_heading-requires-clause-set : goal.scan_plain_heading-requires-clause-set
 scan_plain_heading-requires-clause-set c = (block_fits (goal.at.scan_plain_heading-requires-clause-set c).After-opening_of).0

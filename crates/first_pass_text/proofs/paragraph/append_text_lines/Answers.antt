@@ -1,11 +1,10 @@
-use Rattle.std.proofs.Common.{◌≡◌, ℕ, Option, ap, ◌<◌, ◌≤◌, length, refl, sym, subst, ◌∙◌, arith}
-use Rattle.first_pass_grammar.proofs.Common.{MathBraces, spot, Item, HeadingLevel, Forest, Document, document}
+use Rattle.std.proofs.Common.{◌≡◌, ℕ, Option, ap, ◌<◌, ◌≤◌, length, refl, ◌∙◌, arith}
+use Rattle.first_pass_grammar.proofs.Common.{spot, Item, HeadingLevel, Forest, Document, document}
 use Rattle.first_pass_names.specs.TableEntries.{no_names, names_of}
 use Rattle.first_pass_grammar.proofs.Names.MoreNames.{extends_none, extends_both}
 use Rattle.first_pass_open.specs.OpenBlock.{with_child}
 use Rattle.first_pass_text.specs.Appends.{AppendsLines}
 use Rattle.first_pass_text.specs.declared.paragraph.TextEnd.{TextEnd}
-use Rattle.first_pass_text.proofs.SoFar.{LinesSoFar}
 use Rattle.first_pass_open.proofs.PathLemmas.{open_are_in}
 use Rattle.first_pass_text.proofs.ParagraphLemmas.{LineRead, next_boundary, so_far_start, so_far_next, so_far_stop, stops_by, underlined_by}
 use Rattle.first_pass_text.proofs.paragraph.append_text_lines.Goals as goal
@@ -17,15 +16,11 @@ end_with next underline line_break = record { next = next; line_break = line_bre
 -- the end, with the break as the original item
 ended_by : {d : Document} {start next : ℕ} {old new : Forest Item} {item now : Option Item} {underline : Option HeadingLevel} {end : TextEnd}
     → now ≡ item → end ≡ end_with next underline now → AppendsLines d start old new (end_with next underline item) → AppendsLines d start old new end
-ended_by {d} {start} {next} {old} {new} {item} {now} {underline} {end} e is h =
-    subst (λ x. AppendsLines d start old new x) (sym (is ∙ ap (end_with next underline) e)) h
+ended_by {d} {start} {next} {old} {new} {item} {now} {underline} {end} e is h = grind arith
 
 pub lines-init : goal.lines-init
 lines-init c = record {
-  read =
-      let d = document c.args.source.now.text.now c.args.source.now.options (names_of c.args.allocs.now) in
-      subst (λ (b : MathBraces). LinesSoFar d c.args.start c.args.tree.now c.args.tree.now (spot c.args.start b)) (sym c.new-braces.ensures)
-      (so_far_start d c.args.start c.args.tree.now c.requires.boundary);
+  read = rw c.new-braces.ensures (so_far_start _ c.args.start c.args.tree.now c.requires.boundary);
   grown = extends_none (names_of c.args.allocs.now);
   entries = refl;
 }
@@ -70,8 +65,7 @@ lines-preserved c = record {
       (so_far_next (line_read (goal.at.lines-preserved c).In_ok-at) c.in-More.at c.append_item.new.tree _ c.in_ok-at.ensures.value c.in-More.is
       c.in_ok-at.ensures.place
       (c.in_ok-append_item-in-More.ensures ∙ ap (with_child c.append_line.new.tree) (c.break_item.ensures ∙ c.held_break-held.ensures))).0;
-  grown =
-      extends_both (names_of c.append_line.new.self) (names_of c.lines.allocs) (names_of c.args.allocs.now) c.in_ok-next.ensures.names c.lines.invariant.grown;
+  grown = extends_both _ _ _ c.in_ok-next.ensures.names c.lines.invariant.grown;
   entries = c.in_ok-next.ensures.entries ∙ c.lines.invariant.entries;
 }
 
@@ -89,14 +83,12 @@ returns-in-NotText-clause-lines c =
 
 pub returns-in-Underline-clause-more : goal.returns-in-Underline-clause-more
 returns-in-Underline-clause-more c = record {
-  names = extends_both (names_of c.append_line.new.self) (names_of c.lines.allocs) (names_of c.args.allocs.now) c.in_ok-next.ensures.names
-      c.lines.invariant.grown;
+  names = extends_both _ _ _ c.in_ok-next.ensures.names c.lines.invariant.grown;
   entries = c.in_ok-next.ensures.entries ∙ c.lines.invariant.entries;
 }
 
 pub returns-in-NotText-clause-more : goal.returns-in-NotText-clause-more
 returns-in-NotText-clause-more c = record {
-  names = extends_both (names_of c.append_line.new.self) (names_of c.lines.allocs) (names_of c.args.allocs.now) c.in_ok-next.ensures.names
-      c.lines.invariant.grown;
+  names = extends_both _ _ _ c.in_ok-next.ensures.names c.lines.invariant.grown;
   entries = c.in_ok-next.ensures.entries ∙ c.lines.invariant.entries;
 }

@@ -1,6 +1,5 @@
-use Rattle.std.proofs.Common.{◌-◌, ap, ◌∙◌}
-use Rattle.first_pass_tree.specs.Forest.{with_text}
-use Rattle.first_pass_tokens.specs.Pieces.{content_in, source}
+use Rattle.std.proofs.Common.{◌-◌, arith}
+use Rattle.first_pass_tokens.specs.Pieces.{source}
 use Rattle.first_pass_tokens.specs.LineTokens.{blanks_at_end}
 use Rattle.first_pass_tokens.specs.TreeTokens.{AppendsCell}
 use Rattle.first_pass_tokens.proofs.LineLemmas.{cell_ends}
@@ -11,14 +10,7 @@ use Rattle.first_pass_tokens.proofs.line.append_cell.Goals.{In_ok-append_text}
 appended : (c : In_ok-append_text) → AppendsCell c.append_pieces.new.texts.items
     (source c.args.content c.args.braces.now) c.args.tree.now c.append_text.new.self c.in_ok-end.end c.append_pieces.new.braces
 unfolding blanks_at_end
-appended c =
-    rw c.text_upto-text.ensures.value at
-    (read_cell (content_in c.text_upto-text.result.now c.args.content c.args.braces.now) c.args.tree.now _ _ c.in_ok-end.pending c.in_ok-end.end
-    c.append_pieces.new.braces
-    c.in_ok-end.ensures.read
-    (c.in_ok-append_text.ensures.ok
-    ∙ ap (λ n. with_text c.append_pieces.new.tree c.in_ok-end.pending.begin (c.in_ok-end.end - n) c.in_ok-end.pending.escaped)
-    c.blanks_at_end-blanks.ensures.value))
+appended c = grind (arith, read_cell)
 
 pub returns-clause-cell : goal.returns-clause-cell
 returns-clause-cell c = appended c

@@ -1,4 +1,4 @@
-use Rattle.std.proofs.Common.{◌+◌, length, inl, refl, sym, ◌∙◌, ap, arith}
+use Rattle.std.proofs.Common.{◌+◌, length, refl, sym, ◌∙◌, ap, arith}
 use Rattle.std.proofs.lemmas.Bool.{or_parts}
 use Rattle.first_pass_tokens.specs.Pieces.{Inline, content_in, size}
 use Rattle.first_pass_tokens.specs.LineTokens.{spot}
@@ -12,23 +12,15 @@ use Rattle.first_pass_tokens.proofs.line.append_pieces.Goals.{In_default, In-Som
 -- the content is read up to the next special byte
 upto_special : (c : In-Some) → IsRead c.loop-at.texts.items (content_in c.args.text.now c.args.content c.args.braces.now) c.args.tree.now
     c.loop-at.tree c.loop-at.pending (spot c.in-Some.at c.loop-at.braces)
-upto_special c =
-    let found = c.in-Some.ensures.found in
-    read_upto c.loop-at.from c.in-Some.at c.loop-at.braces c.loop-at.invariant.read found.from (omega (arith, found.within))
-    (λ k low high. inl (sym (c.requires.marks _ (omega (arith, c.type_inv.text k))) ∙ found.least k low high))
+upto_special c = grind (arith, read_upto)
 
 -- and up to the end of the text, if there is none
 upto_end : (c : In_default) → IsRead c.loop-at.texts.items (content_in c.args.text.now c.args.content c.args.braces.now) c.args.tree.now
     c.loop-at.tree c.loop-at.pending (spot (length c.args.text.now) c.loop-at.braces)
-upto_end c =
-    read_upto c.loop-at.from _ c.loop-at.braces c.loop-at.invariant.read c.loop-at.invariant.read.read.within (omega arith)
-    (λ k low high. inl (sym (c.requires.marks _ (omega (arith, c.type_inv.text k))) ∙ c.in_default.ensures.none k low high))
+upto_end c = grind (arith, read_upto)
 
 pub loop-at-init : goal.loop-at-init
-loop-at-init c = record {
-  read = rw c.held_from-pending.ensures (read_start (content_in c.args.text.now c.args.content c.args.braces.now) c.args.tree.now c.requires.within);
-  more = more_none c.args.texts.now.items;
-}
+loop-at-init c = grind (arith, read_start, more_none)
 
 pub loop-at-preserved : goal.loop-at-preserved
 loop-at-preserved c =

@@ -1,4 +1,4 @@
-use Rattle.std.proofs.Common.{◌≡◌, ℕ, List, Bool, inl, inr, sym, ap, ◌∙◌, arith, true≢false}
+use Rattle.std.proofs.Common.{◌≡◌, ◌≤◌, ℕ, List, Bool, inl, inr, sym, ap, ◌∙◌, arith, true≢false}
 use Rattle.std.proofs.lemmas.Bool.{cases_lt}
 use Rattle.first_pass_walk.specs.Walk.{IsNextMarked}
 use Rattle.first_pass_tokens.specs.Pieces.{content_in}
@@ -25,22 +25,16 @@ returns-then-special_ends_at-clause-cell c texts b =
     (sym (c.special_ends_at.ensures b) ∙ c.if-special_ends_at.true))
 
 pub returns-then-special_ends_at-clause-some : goal.returns-then-special_ends_at-clause-some
-returns-then-special_ends_at-clause-some c b = record {
-  first = c.in_ok-at.ensures.found;
-  ended = sym (c.special_ends_at.ensures b) ∙ c.if-special_ends_at.true;
-}
+returns-then-special_ends_at-clause-some c b = grind arith
 
--- there is only one first marked byte
-first_once : {lut : List Bool} {bytes : List ℕ} {ix i j : ℕ} → IsNextMarked lut bytes ix i → IsNextMarked lut bytes ix j → i ≡ j
-first_once {lut} {bytes} {ix} {i} {j} h k = elim (cases_lt i j) [
-  | inl less ↦ absurd (true≢false (sym h.marked ∙ k.least i h.from less))
-  | inr most ↦ elim (cases_lt j i) [
-    | inl less ↦ absurd (true≢false (sym k.marked ∙ h.least j k.from less))
-    | inr same ↦ omega arith
-  ]
-]
+-- no first marked byte is before another
+not_before : {lut : List Bool} {bytes : List ℕ} {ix i j : ℕ} → IsNextMarked lut bytes ix i → IsNextMarked lut bytes ix j → j ≤ i
+not_before {lut} {bytes} {ix} {i} {j} h k =
+    elim (cases_lt i j) [ inl less ↦ absurd (true≢false (sym h.marked ∙ k.least i h.from less)) | inr most ↦ most ]
 
 pub returns-clause-none : goal.returns-clause-none
 returns-clause-none c at b ends =
-    true≢false (sym ends.ended ∙ ap (content_ends_at (content_in c.args.text.now c.args.content b)) (first_once ends.first c.in_ok-at.ensures.found)
-    ∙ sym (c.special_ends_at.ensures b) ∙ c.if-special_ends_at.false)
+    let found = c.in_ok-at.ensures.found in
+    let same : at ≡ c.in_ok-at.at = omega (arith, not_before ends.first found, not_before found ends.first) in
+    true≢false (sym ends.ended ∙ ap (content_ends_at (content_in c.args.text.now c.args.content b)) same ∙ sym (c.special_ends_at.ensures b)
+    ∙ c.if-special_ends_at.false)

@@ -9,8 +9,4 @@ range_from-requires c =
     c.run_size-size.ensures.value c.run_size-size.ensures.some c.run_size-size.ensures.fits).0
 
 pub overflow_add-at : goal.overflow_add-at
-overflow_add-at c =
-    let place =
-    run_place c.args.content.whole.now c.args.text.now c.args.at c.run_size-size.result c.requires.utf8 c.requires.front c.requires.here
-    c.run_size-size.ensures.value c.run_size-size.ensures.some c.run_size-size.ensures.fits in
-    omega (arith, place.1)
+overflow_add-at c = grind (arith, run_place)

@@ -1,5 +1,4 @@
-use Rattle.std.proofs.Common.{arith, add-one, ◌∙◌}
-use Rattle.first_pass_tree.specs.Forest.{deeper}
+use Rattle.std.proofs.Common.{arith, add-one}
 use Rattle.first_pass_tree.proofs.Keeps.{wrap-nodes, insert-small}
 use Rattle.first_pass_tree.proofs.node_list.wrap.Goals as goal
 
@@ -7,5 +6,4 @@ pub raise-requires : goal.raise-requires
 raise-requires c = rw (c.in_ok-insert.ensures.items, add-one) (insert-small c.args.nodes.now.items c.args.index _ (omega arith) c.requires.small)
 
 pub returns-clause-ok : goal.returns-clause-ok
-returns-clause-ok c =
-    c.raise.ensures ∙ rw (c.in_ok-insert.ensures.items, add-one) (wrap-nodes deeper c.args.nodes.now.items c.args.index _ (omega arith))
+returns-clause-ok c = grind (arith, wrap-nodes)

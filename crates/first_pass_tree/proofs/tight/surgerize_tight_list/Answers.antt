@@ -1,5 +1,5 @@
-use Rattle.std.proofs.Common.{ℕ, ◌+◌, ◌<◌, List, slice_index, sym, subst, arith}
-use Rattle.first_pass_tree.proofs.TightLemmas.{IsTightFrom, tight_from_depths, walk_begins, walk_within, walk_deeper, walk_over, walk_next}
+use Rattle.std.proofs.Common.{ℕ, ◌+◌, ◌<◌, List, slice_index, subst, arith}
+use Rattle.first_pass_tree.proofs.TightLemmas.{tight_from_depths, walk_begins, walk_within, walk_deeper, walk_over, walk_next}
 use Rattle.first_pass_tree.proofs.tight.surgerize_tight_list.Goals as goal
 
 pub overflow_add-first : goal.overflow_add-first
@@ -12,31 +12,16 @@ pub inner_list-inner-requires : goal.inner_list-inner-requires
 inner_list-inner-requires c = (c.loop-at-test.true, walk_within c.args.tree.now c.loop-at.tree _ _ _ c.loop-at.invariant)
 
 pub tighten_between-requires-clause-within : goal.tighten_between-requires-clause-within
-tighten_between-requires-clause-within c =
-    let n = c.inner_list-inner in
-    let i = subst (IsTightFrom c.args.tree.now c.args.list_ix.0 c.depth_at-list_depth.result c.loop-at.at) (sym n.ensures.tree) c.loop-at.invariant in
-    (omega arith, walk_within c.args.tree.now n.new.tree _ _ _ i)
+tighten_between-requires-clause-within c = grind (arith, walk_within)
 
 pub tighten_between-requires-clause-deeper : goal.tighten_between-requires-clause-deeper
-tighten_between-requires-clause-deeper c =
-    let n = c.inner_list-inner in
-    let i = subst (IsTightFrom c.args.tree.now c.args.list_ix.0 c.depth_at-list_depth.result c.loop-at.at) (sym n.ensures.tree) c.loop-at.invariant in
-    λ k a b. walk_deeper c.args.tree.now n.new.tree _ _ _ k i (omega arith) b
+tighten_between-requires-clause-deeper c = grind (arith, walk_deeper)
 
 pub tighten-requires-clause-within : goal.tighten-requires-clause-within
-tighten-requires-clause-within c =
-    let f = c.args.tree.now in
-    let n = c.inner_list-inner in
-    let i = walk_over f _ _ _ c.args.list_ix.0 _ _ n.result.past c.loop-at.invariant (omega arith, omega arith) n.ensures.tree c.tighten_between.ensures in
-    let w = walk_within f c.tighten_between.new.tree _ _ _ i in
-    omega arith
+tighten-requires-clause-within c = grind (arith, walk_over, walk_within)
 
 pub tighten-requires-clause-deeper : goal.tighten-requires-clause-deeper
-tighten-requires-clause-deeper c =
-    let f = c.args.tree.now in
-    let n = c.inner_list-inner in
-    let i = walk_over f _ _ _ c.args.list_ix.0 _ _ n.result.past c.loop-at.invariant (omega arith, omega arith) n.ensures.tree c.tighten_between.ensures in
-    walk_deeper f c.tighten_between.new.tree _ _ _ n.result.place i (omega arith) (omega arith)
+tighten-requires-clause-deeper c = grind (arith, walk_over, walk_deeper)
 
 pub loop-at-preserved : goal.loop-at-preserved
 loop-at-preserved c =

@@ -1,4 +1,4 @@
-use Rattle.std.proofs.Common.{◌≡◌, ℕ, ◌+◌, ◌-◌, w64, bit_and, inl, inr, false, ap, ◌∙◌, arith}
+use Rattle.std.proofs.Common.{◌≡◌, ℕ, ◌+◌, ◌-◌, w64, bit_and, false, ap, ◌∙◌, arith}
 use Rattle.std.proofs.lemmas.Bool.{cases_eq}
 use Rattle.std.proofs.lemmas.Option.{IfSome_then}
 use Rattle.std.proofs.lemmas.Nat.Bits.{bit_at-lt, bit_at_and, bit_at-trailing_zeros}
@@ -16,15 +16,7 @@ is_set n k set = omega (arith, set, bit_at_and n (n - 1) k, bit_at-lt n k)
 unmarked : (c : After-first_at_stops) (k : ℕ) → bit_at c.args.stops k ≡ 1
     → (bit_at (bit_and c.args.stops (c.args.stops - 1)) k ≡ 1 → is_marked c.args.lut.now c.args.bytes.now (c.args.at + k) ≡ false)
     → is_marked c.args.lut.now c.args.bytes.now (c.args.at + k) ≡ false
-unmarked c k set other =
-    let small = c.requires.stops.within in
-    elim (cases_eq (bit_at (bit_and c.args.stops (c.args.stops - 1)) k) 0) [
-      | inl clear ↦ elim (cleared c.args.stops c.requires.some (omega arith) k clear) [
-        | inl none ↦ absurd (omega (arith, set, none))
-        | inr lowest ↦ rw lowest c.if-lut-bytes.false
-      ]
-      | inr kept ↦ other (omega (arith, kept, bit_at-lt (bit_and c.args.stops (c.args.stops - 1)) k))
-    ]
+unmarked c k set other = grind (arith, cases_eq, cleared, bit_at-lt)
 
 pub bounds-bytes-first : goal.bounds-bytes-first
 bounds-bytes-first c =

@@ -7,9 +7,7 @@ use Rattle.first_pass_walk.proofs.walk.next_special_in_words.Goals as goal
 
 -- a load of 16 bytes
 pub returns-in-Some-clause-found : goal.returns-in-Some-clause-found
-returns-in-Some-clause-found c =
-    next_later c.args.lut.now c.args.bytes.now c.args.ix c.loop-next.next c.in-Some.at c.loop-next.invariant.from c.loop-next.invariant.none
-    c.in-Some.ensures.found
+returns-in-Some-clause-found c = grind (arith, next_later)
 
 -- no byte of a load without stops is marked
 pub loop-next-preserved-then-stops-eq0 : goal.loop-next-preserved-then-stops-eq0
@@ -21,11 +19,7 @@ loop-next-preserved-then-stops-eq0 c = record {
 }
 
 pub loop-next-preserved : goal.loop-next-preserved
-loop-next-preserved c = record {
-  from = omega arith;
-  none = unmarked_from c.args.lut.now c.args.bytes.now c.args.ix c.loop-next.next (c.loop-next.next + 16) c.loop-next.invariant.none
-      c.in-None.ensures.none;
-}
+loop-next-preserved c = grind (arith, unmarked_from)
 
 -- the last load
 pub first_at_stops-requires-clause-within : goal.first_at_stops-requires-clause-within

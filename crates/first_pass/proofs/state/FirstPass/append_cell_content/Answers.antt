@@ -1,9 +1,7 @@
 use Rattle.std.proofs.Common.{◌≡◌, ◌≤◌, None, IsCharBoundary, length, refl, ap, subst, sym}
 use Rattle.first_pass_grammar.proofs.Common.{text_upto, cell_end_place, document}
-use Rattle.first_pass_names.specs.TableEntries.{names_of, no_names}
+use Rattle.first_pass_blocks.proofs.Common.{no_names, PassState, ordered_none}
 use Rattle.first_pass_tokens.proofs.BytesLemmas.{few_of_cell}
-use Rattle.first_pass_lists.specs.declared.state.PassState.{PassState}
-use Rattle.first_pass_order.proofs.OrderLemmas.{ordered_none}
 use Rattle.first_pass.proofs.CallsNamed.{cell_named}
 use Rattle.first_pass.proofs.OrderJoin.{both_ends, state_before, ordered_cell}
 use Rattle.first_pass.proofs.state.FirstPass.append_cell_content.Goals as goal
@@ -13,7 +11,6 @@ returns c =
     let self = c.args.self.now in
     let text = self.pass.source.text.now in
     let options = self.pass.source.options in
-    let names = names_of c.append_cell.new.self in
     let old : PassState = self.pass.state in
     let new : PassState = record old { tree = c.append_cell.new.tree; begin_list_item = None } in
     let stop = c.in_ok-stop.stop in
@@ -21,11 +18,7 @@ returns c =
     record {
       line = (record { cell = e.cell; ends = e.ends; names = e.texts }, refl);
       tokens = record {
-        kept = record {
-          source = refl;
-          more = record { names = e.names; entries = e.entries };
-          named = cell_named names (names_of self.pass.allocs) _ old.tree new.tree stop e.names e.cell;
-        };
+        kept = record { source = refl; more = record { names = e.names; entries = e.entries }; named = cell_named e.names e.cell };
         state = refl;
         boundary = λ whole boundary.
             let same : text_upto text c.args.«end» ≡ text = ap (text_upto text) whole in

@@ -1,9 +1,7 @@
 use Rattle.std.proofs.Common.{false, ℕ, Option, None, refl, subst}
 use Rattle.first_pass_grammar.proofs.Common.{document, text_upto, EndsLine}
-use Rattle.first_pass_names.specs.TableEntries.{names_of, no_names}
+use Rattle.first_pass_blocks.proofs.Common.{no_names, PassState, ordered_none}
 use Rattle.first_pass_tokens.proofs.BytesLemmas.{few_of_line}
-use Rattle.first_pass_lists.specs.declared.state.PassState.{PassState}
-use Rattle.first_pass_order.proofs.OrderLemmas.{ordered_none}
 use Rattle.first_pass.proofs.CallsNamed.{line_named}
 use Rattle.first_pass.proofs.OrderJoin.{both_ends, state_before, ordered_line}
 use Rattle.first_pass_text.proofs.ParagraphLemmas.{next_boundary}
@@ -14,7 +12,6 @@ returns-clause-line c =
     let self = c.args.self.now in
     let text = self.pass.source.text.now in
     let options = self.pass.source.options in
-    let names = names_of c.append_line.new.self in
     let old : PassState = self.pass.state in
     let new : PassState = record old { tree = c.append_line.new.tree; begin_list_item = None } in
     let answer = c.in_ok-line.line in
@@ -22,11 +19,7 @@ returns-clause-line c =
     record {
       line = record { line = e.line; ends = e.ends; names = e.texts };
       tokens = record {
-        kept = record {
-          source = refl;
-          more = record { names = e.names; entries = e.entries };
-          named = line_named names (names_of self.pass.allocs) _ old.tree new.tree answer e.names e.line;
-        };
+        kept = record { source = refl; more = record { names = e.names; entries = e.entries }; named = line_named e.names e.line };
         state = refl;
         boundary = λ whole boundary.
             next_boundary (document text options no_names) c.args.start answer.0 self.braces answer.1 e.utf8 boundary

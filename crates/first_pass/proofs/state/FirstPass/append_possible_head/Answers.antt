@@ -1,9 +1,6 @@
 use Rattle.std.proofs.Common.{◌≡◌, ◌+◌, ◌≤◌, ℕ, List, length, drop, Option, Some, None, IfSome, IsCharBoundary, sym, ap, subst, ◌∙◌, arith, length-take-le}
 use Rattle.first_pass_grammar.proofs.Common.{line_len, text_upto}
-use Rattle.first_pass_grammar.proofs.Names.NamedItems.{named_more}
-use Rattle.first_pass_names.specs.TableEntries.{names_of}
-use Rattle.first_pass_names.proofs.NameLemmas.{extends_both, extends_alignments}
-use Rattle.first_pass_text.proofs.OrderHeading.{line_stops}
+use Rattle.first_pass_blocks.proofs.Common.{named_more, names_of, extends_both, extends_alignments, line_stops}
 use Rattle.first_pass.specs.Views.{allocs_of, tree_of}
 use Rattle.first_pass_order.proofs.OrderLemmas.{ordered_at_later}
 use Rattle.first_pass.proofs.state.FirstPass.append_possible_head.Goals as goal

@@ -1,20 +1,11 @@
-use Rattle.std.proofs.Common.{sym, refl, subst}
-use Rattle.first_pass_names.specs.TableEntries.{names_of}
-use Rattle.first_pass_order.proofs.NamedLemmas.{AreReadNamed, list_finished_named}
+use Rattle.std.proofs.Common.{refl}
+use Rattle.first_pass_blocks.proofs.Common.{list_finished_named}
 use Rattle.first_pass_order.proofs.PopOrder.{finish_list_keeps_order}
 use Rattle.first_pass.proofs.state.FirstPass.finish_list.Goals as goal
 
 pub returns : goal.returns
-returns c =
-    let pass = c.args.self.now.pass in
-    let names = names_of pass.allocs in
-    record {
-      kept = record {
-        source = refl;
-        tables = refl;
-        named = λ h. subst (AreReadNamed names) (sym c.finish_list.ensures) (list_finished_named names c.args.ix pass.state h);
-        braces = refl;
-      };
-      state = c.finish_list.ensures;
-      order = λ at later within ends h. finish_list_keeps_order pass.source.text.now pass.state _ at c.args.ix c.finish_list.ensures later within ends h;
-    }
+returns c = record {
+  kept = record { source = refl; tables = refl; named = λ h. rw c.finish_list.ensures (list_finished_named _ _ _ h); braces = refl };
+  state = c.finish_list.ensures;
+  order = λ at later within ends h. finish_list_keeps_order _ _ _ at _ c.finish_list.ensures later within ends h;
+}

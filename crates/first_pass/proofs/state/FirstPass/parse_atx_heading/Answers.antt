@@ -1,15 +1,12 @@
 use Rattle.std.proofs.Common.{drop, refl, arith, length-drop}
-use Rattle.first_pass_grammar.proofs.Common.{line_len-fits, document, heading_block}
-use Rattle.first_pass_names.specs.TableEntries.{names_of}
+use Rattle.first_pass_grammar.proofs.Common.{line_len-fits, heading_block}
 use Rattle.first_pass.proofs.Added.{adds_leaf}
 use Rattle.first_pass.proofs.CallsNamed.{atx_named}
 use Rattle.first_pass.proofs.state.FirstPass.parse_atx_heading.Goals as goal
 
 pub returns : goal.returns
 returns c =
-    let self = c.args.self.now in
-    let text = self.pass.source.text.now in
-    let d = document text self.pass.source.options (names_of c.parse_atx_heading.new.allocs) in
+    let text = c.args.self.now.pass.source.text.now in
     let e = c.in_ok-next.ensures in
     let line = line_len-fits (drop c.args.start text) in
     let left = length-drop c.args.start text in
@@ -17,9 +14,6 @@ returns c =
     let ends = e.block.end_is in
     record {
       block = e.block;
-      leaf =
-          adds_leaf self _ self.pass.state.blank (heading_block c.args.start c.in_ok-next.next c.args.atx_level e.block.index e.block.chain) (refl, refl, refl)
-          e.more e.block.tree_is
-          (atx_named d c.args.start c.args.atx_level self.pass.state.tree c.parse_atx_heading.new.tree c.in_ok-next.next e.block)
-          c.args.start c.in_ok-next.next e.fits (omega arith);
+      leaf = adds_leaf (heading_block c.args.start c.in_ok-next.next c.args.atx_level e.block.index e.block.chain) (refl, refl, refl)
+          e.more e.block.tree_is (atx_named e.block) e.fits (omega arith);
     }

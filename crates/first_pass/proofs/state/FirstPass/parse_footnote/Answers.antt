@@ -1,21 +1,31 @@
-use Rattle.std.proofs.Common.{◌≤◌, ℕ, Option, Some, None, IfSome, IsCharBoundary, refl}
+use Rattle.std.proofs.Common.{◌≡◌, ◌≤◌, ℕ, Option, Some, None, IfSome, IsCharBoundary, refl}
+use Rattle.first_pass_grammar.proofs.Common.{AreNamed}
+use Rattle.first_pass_blocks.proofs.Common.{names_of, IsReadTo, StaysSame, allocs_of, state_of, source_text, tree_of}
 use Rattle.first_pass_blocks.specs.declared.state.BlockPass.{BlockPass}
-use Rattle.first_pass_blocks.specs.OpenedFootnotes.{StaysSame, ReadsFootnote}
-use Rattle.first_pass_order.specs.Ordered.{IsReadTo}
-use Rattle.first_pass_blocks.specs.Views.{state_of, source_text}
+use Rattle.first_pass_blocks.specs.OpenedFootnotes.{ReadsFootnote}
 use Rattle.first_pass_lists.proofs.NoEmptyItem.{footnote_begun_none}
-use Rattle.first_pass_blocks.proofs.FootnoteOpened.{IsRead, some_found}
+use Rattle.first_pass_blocks.proofs.FootnoteOpened.{IsRead, opened_named}
+use Rattle.first_pass_blocks.proofs.LinkDefinitions.{found_by, none_by}
 use Rattle.first_pass_order.proofs.PopOrder.{footnote_keeps_order}
-use Rattle.first_pass.proofs.CallsNamed.{footnote_named}
 use Rattle.first_pass.proofs.state.FirstPass.parse_footnote.Goals as goal
 
--- a footnote definition that is opened at an offset keeps order
+-- no footnote definition begins there, and nothing changed
+abbrev NoneRead : BlockPass → BlockPass → Option ℕ → Type 0
+NoneRead old new size = (size ≡ None) × StaysSame old new
+
+-- a footnote definition is opened at an offset, or none begins there: each index names an entry if each did, and order is kept
+named_by : (old new : BlockPass) (start : ℕ) (size : Option ℕ) → ReadsFootnote old new start size → AreNamed (names_of (allocs_of old)) (tree_of old).nodes
+    → AreNamed (names_of (allocs_of new)) (tree_of new).nodes
+named_by old new start None reads h =
+    let same = (none_by _ None (NoneRead old new None) (IsRead old new start) reads refl).1.1 in rw (same.2, same.1) h
+named_by old new start (Some n) reads h =
+    opened_named (found_by _ (Some n) n (NoneRead old new (Some n)) (IsRead old new start) reads (λ none. none.0) refl).2.1 h
+
 order_by : (old new : BlockPass) (start : ℕ) (size : Option ℕ) → IsCharBoundary (source_text old) start → ReadsFootnote old new start size
     → IfSome size (λ n. (at : ℕ) → at ≤ start → IsReadTo (source_text old) (state_of old) at → IsReadTo (source_text old) (state_of new) start)
 order_by old new start None boundary reads = tt
 order_by old new start (Some n) boundary reads = λ at low o.
-    let f = some_found (StaysSame old new) (IsRead old new start) _ (Some n) n refl reads in
-    let opened = f.2.1 in
+    let opened = (found_by _ (Some n) n (NoneRead old new (Some n)) (IsRead old new start) reads (λ none. none.0) refl).2.1 in
     footnote_keeps_order (source_text old) (state_of old) (state_of new) at start opened.index opened.opened low boundary.0 boundary
     (footnote_begun_none start opened.index (state_of old)) o
 
@@ -28,7 +38,7 @@ returns c =
       source = e.source;
       footnote = record {
         braces = refl;
-        named = λ h. footnote_named old new c.args.start h c.in_ok-size.size e.head;
+        named = named_by old new c.args.start c.in_ok-size.size e.head;
         head = e.head;
         within = e.within;
         order = order_by old new c.args.start c.in_ok-size.size c.requires e.head;

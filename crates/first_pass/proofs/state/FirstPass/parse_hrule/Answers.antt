@@ -1,11 +1,7 @@
 use Rattle.std.proofs.Common.{◌+◌, None, refl, sym, subst}
 use Rattle.first_pass_grammar.proofs.Common.{rule_block}
+use Rattle.first_pass_blocks.proofs.Common.{names_of, PassState, IsOrderedAt, block_added, block_ordered}
 use Rattle.first_pass_grammar.proofs.Names.MoreNames.{extends_none}
-use Rattle.first_pass_names.specs.TableEntries.{names_of}
-use Rattle.first_pass_lists.specs.declared.state.PassState.{PassState}
-use Rattle.first_pass_order.specs.Ordered.{IsOrderedAt}
-use Rattle.first_pass_order.proofs.NamedLemmas.{block_added}
-use Rattle.first_pass_containers.proofs.OrderSteps.{block_ordered}
 use Rattle.first_pass.proofs.CallsNamed.{rule_named}
 use Rattle.first_pass.proofs.state.FirstPass.parse_hrule.Goals as goal
 

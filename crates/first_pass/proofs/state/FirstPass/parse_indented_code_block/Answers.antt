@@ -1,8 +1,6 @@
 use Rattle.std.proofs.Common.{refl}
 use Rattle.first_pass_grammar.proofs.Common.{document}
-use Rattle.first_pass_names.specs.TableEntries.{names_of}
-use Rattle.first_pass_names.proofs.NameLemmas.{extends_none}
-use Rattle.first_pass_raw.proofs.IndentedLemmas.{first_at, first_is}
+use Rattle.first_pass_blocks.proofs.Common.{names_of, extends_none, first_at, first_is}
 use Rattle.first_pass_blocks.proofs.Leaves.KindBlocks.{indented_between}
 use Rattle.first_pass.proofs.Added.{adds_lines}
 use Rattle.first_pass.proofs.CallsNamed.{code_named}
@@ -11,18 +9,12 @@ use Rattle.first_pass.proofs.state.FirstPass.parse_indented_code_block.Goals as 
 pub returns : goal.returns
 returns c =
     let self = c.args.self.now in
-    let text = self.pass.source.text.now in
-    let names = names_of c.parse_indented_code_block.new.allocs in
+    let d = document self.pass.source.text.now self.pass.source.options (names_of c.parse_indented_code_block.new.allocs) in
     let e = c.in_ok-next.ensures in
-    let p = first_at text c.args.start_ix c.args.remaining_space in
-    let block = e.block p (first_is text c.args.start_ix c.args.remaining_space) refl in
-    let b = block.is names (extends_none names) in
+    let block = e.block (first_at d.text c.args.start_ix c.args.remaining_space) (first_is d.text c.args.start_ix c.args.remaining_space) refl in
+    let b = block.is d.names (extends_none d.names) in
     record {
       block = e.block;
-      leaf =
-          adds_lines self _ c.in_ok-next.blank block.items (refl, refl, refl) e.more block.tree_is
-          (code_named (document text self.pass.source.options names) _ _ _ _ b.chain block.items b.items_are tt b.lines)
-          c.args.start_ix c.in_ok-next.next
-          (indented_between text self.pass.source.options names self.pass.state.tree c.parse_indented_code_block.new.tree
-          c.args.start_ix c.in_ok-next.next e.utf8 c.requires.boundary e.boundary.1.0 c.args.remaining_space c.in_ok-next.blank e.block) e.boundary;
+      leaf = adds_lines block.items (refl, refl, refl) e.more block.tree_is (code_named d _ _ _ _ b.chain block.items b.items_are tt b.lines)
+          (indented_between _ _ _ _ _ _ _ e.utf8 c.requires.boundary e.boundary.1.0 c.args.remaining_space c.in_ok-next.blank e.block) e.boundary;
     }

@@ -1,7 +1,6 @@
 use Rattle.std.proofs.Common.{refl}
 use Rattle.first_pass_grammar.proofs.Common.{document}
-use Rattle.first_pass_names.specs.TableEntries.{names_of}
-use Rattle.first_pass_names.proofs.NameLemmas.{extends_none}
+use Rattle.first_pass_blocks.proofs.Common.{names_of, extends_none}
 use Rattle.first_pass_blocks.proofs.Leaves.KindBlocks.{metadata_between}
 use Rattle.first_pass.proofs.Added.{adds_lines}
 use Rattle.first_pass.proofs.CallsNamed.{code_named}
@@ -10,16 +9,11 @@ use Rattle.first_pass.proofs.state.FirstPass.parse_metadata_block.Goals as goal
 pub returns : goal.returns
 returns c =
     let self = c.args.self.now in
-    let text = self.pass.source.text.now in
-    let names = names_of c.parse_metadata_block.new.allocs in
+    let d = document self.pass.source.text.now self.pass.source.options (names_of c.parse_metadata_block.new.allocs) in
     let e = c.in_ok-next.ensures in
-    let b = e.block.are names (extends_none names) in
+    let b = e.block.are d.names (extends_none d.names) in
     record {
       block = e.block;
-      leaf =
-          adds_lines self _ self.pass.state.blank e.block.items (refl, refl, refl) e.more e.block.tree_is
-          (code_named (document text self.pass.source.options names) _ _ _ _ b.chain e.block.items b.items_are tt b.lines)
-          c.args.start_ix c.in_ok-next.next
-          (metadata_between text self.pass.source.options names self.pass.state.tree c.parse_metadata_block.new.tree
-          c.args.start_ix c.in_ok-next.next e.utf8 c.requires.boundary e.boundary.1.0 c.args.metadata_block_ch c.requires.byte e.block) e.boundary;
+      leaf = adds_lines e.block.items (refl, refl, refl) e.more e.block.tree_is (code_named d _ _ _ _ b.chain e.block.items b.items_are tt b.lines)
+          (metadata_between _ _ _ _ _ _ _ e.utf8 c.requires.boundary e.boundary.1.0 c.args.metadata_block_ch c.requires.byte e.block) e.boundary;
     }

@@ -1,9 +1,5 @@
 use Rattle.std.proofs.Common.{◌≡◌, None, refl, sym, ap, subst}
-use Rattle.first_pass_grammar.proofs.Common.{document}
-use Rattle.first_pass_names.specs.TableEntries.{names_of}
-use Rattle.first_pass_lists.specs.declared.state.PassState.{PassState}
-use Rattle.first_pass_order.specs.Ordered.{IsOrderedAt}
-use Rattle.first_pass_order.proofs.NamedLemmas.{block_added}
+use Rattle.first_pass_blocks.proofs.Common.{names_of, PassState, IsOrderedAt, block_added}
 use Rattle.first_pass_containers.proofs.OrderSteps.{text_ordered}
 use Rattle.first_pass.proofs.CallsNamed.{text_added}
 use Rattle.first_pass.proofs.state.FirstPass.parse_paragraph.Goals as goal
@@ -13,7 +9,6 @@ returns c =
     let self = c.args.self.now in
     let text = self.pass.source.text.now in
     let next = c.in_ok-next.next in
-    let names = names_of c.parse_text.new.self.allocs in
     let old : PassState = self.pass.state in
     let tree = c.parse_text.new.self.state.tree in
     let new : PassState = record old { tree = tree; begin_list_item = None } in
@@ -26,9 +21,8 @@ returns c =
       more = e.more;
       braces = refl;
       named = λ free h.
-          block_added names (names_of self.pass.allocs) old.tree tree e.block.items e.more.names e.block.tree_is
-          (text_added (document text self.pass.source.options names) c.args.start_ix c.args.tasklist_marker old.tree tree next e.block
-          c.requires.boundary free) h;
+          block_added (names_of c.parse_text.new.self.allocs) (names_of self.pass.allocs) old.tree tree e.block.items e.more.names e.block.tree_is
+          (text_added e.block c.requires.boundary free) h;
       state = is;
       fits = e.fits;
       order = λ inside at stands o. subst (λ (r : PassState). IsOrderedAt text r next) (sym is)

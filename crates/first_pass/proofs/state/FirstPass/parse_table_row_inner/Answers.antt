@@ -1,36 +1,15 @@
-use Rattle.std.proofs.Common.{refl, subst}
-use Rattle.first_pass_grammar.proofs.Common.{document}
-use Rattle.first_pass_names.specs.TableEntries.{names_of}
-use Rattle.first_pass_tables.specs.Appends.{OpenTable, open_table, ReadsRow}
+use Rattle.std.proofs.Common.{refl}
 use Rattle.first_pass_tables.proofs.RowsAdded.{row_ends, row_none}
 use Rattle.first_pass.proofs.CallsNamed.{row_named}
-use Rattle.first_pass.proofs.RowsOrdered.{row_ordered, row_count}
+use Rattle.first_pass.proofs.RowsOrdered.{row_read}
 use Rattle.first_pass.proofs.state.FirstPass.parse_table_row_inner.Goals as goal
 
 pub returns : goal.returns
 returns c =
-    let self = c.args.self.now in
-    let d = document self.pass.source.text.now self.pass.source.options (names_of c.parse_table_row_inner-row.new.allocs) in
-    let old = self.pass.state.tree in
-    let new = c.parse_table_row_inner-row.new.tree in
-    let before : OpenTable = open_table old c.args.missing_empty_cells.now c.replace.result in
-    let after : OpenTable = open_table new c.parse_table_row_inner-row.new.table.missing_empty_cells c.parse_table_row_inner-row.new.table.braces in
     let row = c.in_ok-row.row in
     let e = c.in_ok-row.ensures in
-    let none = row_none d c.args.row_cells c.args.ix before after row e.row in
     record {
-      row_is = subst (λ b. ReadsRow d c.args.row_cells c.args.ix (open_table old c.args.missing_empty_cells.now b) after row) c.replace.ensures.value e.row;
-      reads = record {
-        kept = record {
-          source = refl;
-          more = e.more;
-          named = row_named d c.args.row_cells c.args.ix before after row (names_of self.pass.allocs) e.more.names e.row;
-        };
-        texts = e.texts;
-        state = refl;
-        order = λ begins at low o.
-            row_ordered d.text old new at c.args.ix row low c.requires.within none
-            (row_ends d c.args.row_cells c.args.ix before after row c.requires.within e.row) (e.fits begins at low) o;
-        node_bound = λ begins from low apart. row_count d.text old new from c.args.ix row none (e.fits begins from low) apart;
-      };
+      row_is = rw c.replace.ensures.value at e.row;
+      reads = row_read _ _ c.args.ix row (record { source = refl; more = e.more; named = row_named _ _ _ _ _ row _ e.more.names e.row }) e.texts refl
+          c.requires.within (row_none _ _ _ _ _ row e.row) (row_ends _ _ _ _ _ row c.requires.within e.row) e.fits;
     }

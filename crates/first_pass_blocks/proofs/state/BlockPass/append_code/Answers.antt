@@ -1,12 +1,9 @@
 use Rattle.std.proofs.Common.{◌+◌, drop, IsCharBoundary, refl, sym, ap, ◌∙◌, subst, arith}
 use Rattle.first_pass_grammar.proofs.Common.{is_blank_line, line_len, Rest, after_columns, Place, offset, moved_columns, columns_keep, columns_line_end}
 use Rattle.first_pass_grammar.proofs.Common.{columns_shorter}
-use Rattle.first_pass_raw.specs.RawBlocks.{after_line_at}
-use Rattle.first_pass_open.proofs.PlaceLemmas.{read_to}
+use Rattle.first_pass_blocks.proofs.Common.{after_line_at, read_to}
 use Rattle.first_pass_ready.proofs.EnterLemmas.{blank_columns}
 use Rattle.first_pass_containers.proofs.OrderSteps.{offset_later}
-use Rattle.first_pass_names.specs.TableEntries.{names_of}
-use Rattle.first_pass_kinds.specs.declared.kinds.MarkedLeaf.TheVariants.{IndentedCode}
 use Rattle.first_pass_blocks.proofs.Leaves.KindBlocks.{found_says, code_added, indented_between}
 use Rattle.first_pass_blocks.proofs.state.BlockPass.append_code.Goals as goal
 
@@ -30,20 +27,15 @@ parse_indented_code_block-requires-clause-code c =
     let i = columns_keep text 4 c.args.place c.requires.2.utf8 c.requires.2.place in
     let e = read_to (after_columns 4) _ c.args.place _ _ c.offset.ensures c.scan_space_upto.ensures.rest c.place.view_is in
     ap (λ n. is_blank_line (drop n text)) e ∙ ap is_blank_line (sym i.left) ∙ blank_columns 4 c.args.place.rest
-    ∙ (found_says c.args.self.now.source.options c.args.place IndentedCode c.requires.0 c.requires.1 c.requires.2.found).0
+    ∙ (found_says c.requires.2).0
 
 pub returns : goal.returns
 returns c =
-    let self = c.args.self.now in
-    let text = self.source.text.now in
-    let options = self.source.options in
+    let text = c.args.self.now.source.text.now in
     let p : Place = c.args.place in
     let q : Place = moved_columns 4 p in
     let f = c.requires.2 in
     let e = c.in_ok-next.ensures in
-    let next = c.in_ok-next.next in
-    let names = names_of c.parse_indented_code_block.new.allocs in
-    let tree = c.parse_indented_code_block.new.tree in
     let i = columns_keep text 4 p f.utf8 f.place in
     let there = read_to (after_columns 4) _ p _ _ c.offset.ensures c.scan_space_upto.ensures.rest c.place.view_is in
     let owed = c.remaining_space.ensures.value ∙ ap (λ (r : Rest). r.owed) c.scan_space_upto.ensures.rest
@@ -51,17 +43,15 @@ returns c =
     let ends = ap (after_line_at text) there ∙ ap (λ bs. offset q + line_len bs) (sym i.left) ∙ columns_line_end 4 p in
     let low = offset_later text p.line p.rest q.rest f.place i (columns_shorter 4 p.rest) in
     let later = e.boundary.0 in
-    let begins = subst (IsCharBoundary text) (sym there) i.boundary in
-    let fits = indented_between text options names self.state.tree tree c.offset.result next e.utf8 begins e.boundary.1.0 c.remaining_space.result
-    c.in_ok-next.blank e.block in
     record {
       source = refl;
       front = refl;
       more = e.more;
       begin_list_item = f.no_empty;
-      block = code_added text options names p self.state.tree tree next _ i
+      block = code_added text _ _ p _ _ _ _ i
           (e.block q (record { offset_is = sym there; left_is = i.left ∙ ap (λ n. drop n text) (sym there) }) (sym owed));
       later = omega arith;
       boundary = e.boundary.1;
-      fits = λ from before. fits from (omega arith);
+      fits = λ from before. indented_between text _ _ _ _ c.offset.result _ e.utf8 (subst (IsCharBoundary text) (sym there) i.boundary) e.boundary.1.0
+          c.remaining_space.result c.in_ok-next.blank e.block from (omega arith);
     }

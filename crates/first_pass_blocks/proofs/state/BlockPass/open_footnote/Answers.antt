@@ -1,13 +1,10 @@
-use Rattle.std.proofs.Common.{ℕ, ◌+◌, ◌<◌, Bool, drop, Option, IfSome, IsCharBoundary, refl, sym, ap, subst, ◌∙◌}
+use Rattle.std.proofs.Common.{◌+◌, ◌<◌, Bool, drop, IsCharBoundary, refl, sym, ap, ◌∙◌}
 use Rattle.first_pass_grammar.proofs.Common.{footnote_at}
-use Rattle.first_pass_open.specs.declared.source.Source.{Source}
-use Rattle.first_pass_open.proofs.PlaceLemmas.{all_keep}
+use Rattle.first_pass_blocks.proofs.Common.{all_keep, context_in, head_at_mark}
 use Rattle.first_pass_blocks.specs.declared.state.BlockPass.{BlockPass}
-use Rattle.first_pass_containers.specs.FootnoteHeads.{IsAfterHead}
-use Rattle.first_pass_blocks.specs.OpenedFootnotes.{StaysSame}
-use Rattle.first_pass_blocks.specs.Views.{context_in}
-use Rattle.first_pass_containers.proofs.Openings.HeadLemmas.{no_mark, head_at_mark}
-use Rattle.first_pass_blocks.proofs.FootnoteOpened.{IsRead, none_found, some_found, footnote_opened}
+use Rattle.first_pass_containers.proofs.Openings.HeadLemmas.{no_mark}
+use Rattle.first_pass_blocks.proofs.FootnoteOpened.{IsRead, footnote_opened}
+use Rattle.first_pass_blocks.proofs.LinkDefinitions.{found_by, none_by}
 use Rattle.first_pass_blocks.proofs.state.BlockPass.open_footnote.Goals.{In-Some-2}
 use Rattle.first_pass_blocks.proofs.state.BlockPass.open_footnote.Goals as goal
 
@@ -21,8 +18,7 @@ returns-in_default c =
 read : (c : In-Some-2)
     → (3 < c.in-Some-2.size) × IsCharBoundary c.args.self.now.source.text.now (c.in-Some.start + c.in-Some-2.size)
 read c =
-    subst (λ (z : Option ℕ). IfSome z (λ n. (3 < n) × IsCharBoundary c.args.self.now.source.text.now (c.in-Some.start + n))) c.in-Some-2.is
-    c.in_ok-parse_footnote.ensures.within
+    rw c.in-Some-2.is at c.in_ok-parse_footnote.ensures.within
 
 pub returns-in-None : goal.returns-in-None
 returns-in-None c =
@@ -30,10 +26,10 @@ returns-in-None c =
     let new : BlockPass = c.parse_footnote.new.self in
     let p = c.args.place.now in
     let text = self.source.text.now in
-    let f = none_found (StaysSame self new) (IsRead self new c.in-Some.start) _ _ c.in-None.is c.in_ok-parse_footnote.ensures.head in
+    let f = none_by _ _ _ (IsRead self new c.in-Some.start) c.in_ok-parse_footnote.ensures.head c.in-None.is in
     let i = all_keep text p.line p.rest c.requires.utf8 c.requires.place in
     let m = head_at_mark text (context_in self) p c.in-Some.start i (sym c.footnote_mark.ensures.value ∙ c.in-Some.is) in (
-      f.1,
+      f.1.1,
       refl,
       λ no_table. m.1 ∙ ap (λ (t : Bool). footnote_at t (context_in self) (drop c.in-Some.start text)) (sym no_table) ∙ f.0,
     )
@@ -42,11 +38,10 @@ pub returns-in-Some-2 : goal.returns-in-Some-2
 returns-in-Some-2 c =
     let self : BlockPass = c.args.self.now in
     let new : BlockPass = c.parse_footnote.new.self in
-    let f = some_found (StaysSame self new) (IsRead self new c.in-Some.start) _ _ c.in-Some-2.size c.in-Some-2.is
-    c.in_ok-parse_footnote.ensures.head in
+    let f = found_by _ _ c.in-Some-2.size _ (IsRead self new c.in-Some.start) c.in_ok-parse_footnote.ensures.head (λ none. none.0) c.in-Some-2.is in
     let r = read (goal.at.returns-in-Some-2 c).In-Some-2 in
     let source = c.parse_footnote.ensures.source in
-    let following = subst (λ (z : Source). IsAfterHead z (c.in-Some.start + c.in-Some-2.size) c.place_after_head.result) source c.place_after_head.ensures in
     footnote_opened self new c.args.place.now c.place_after_head.result c.in-Some.start c.in-Some-2.size f.0
     (record { utf8 = c.requires.utf8; place = c.requires.place; forest = c.recall_forest.ensures; none = c.requires.no_empty })
-    (source, c.parse_footnote.ensures.front) (record { mark = sym c.footnote_mark.ensures.value ∙ c.in-Some.is; here = f.1; some = r.0 }) f.2 following
+    (source, c.parse_footnote.ensures.front) (record { mark = sym c.footnote_mark.ensures.value ∙ c.in-Some.is; here = f.1; some = r.0 }) f.2
+    (rw source at c.place_after_head.ensures)

@@ -1,26 +1,21 @@
-use Rattle.std.proofs.Common.{◌≡◌, ℕ, ◌<◌, Bool, true, false, length, Option, Some, None, MatchOption, IsSomeAnd, IsUtf8, IsCharBoundary, refl, sym, ap}
-use Rattle.std.proofs.Common.{subst, ◌∙◌, arith}
-use Rattle.first_pass_grammar.proofs.Common.{Place, offset, line_end, IsPlaceOf, place_length, IsForest, in_table, at_rest, footnote_head_at, start_at}
+use Rattle.std.proofs.Common.{◌≡◌, ℕ, ◌<◌, Bool, true, false, length, Option, Some, None, MatchOption, IsSomeAnd, IsUtf8, IsCharBoundary, refl, sym, subst}
+use Rattle.std.proofs.Common.{ap, ◌∙◌, arith}
+use Rattle.first_pass_grammar.proofs.Common.{Place, offset, line_end, place_length, IsForest, in_table, at_rest, footnote_head_at, start_at}
+use Rattle.first_pass_blocks.proofs.Common.{context_of, Source, PassState, AfterMarker, OnLine, TaskText, LineEnds, OnlyTag, StaysSame, TriesFootnote}
+use Rattle.first_pass_blocks.proofs.Common.{Position, InLine, LeafAt, IsNotBefore, ReadsTo, last_at, FinishesNothing, state_of, source_of, tree_of}
+use Rattle.first_pass_blocks.proofs.Common.{source_options, source_text, only_leaf}
 use Rattle.first_pass_grammar.specs.Openers.{Start as ContainerStart}
-use Rattle.first_pass_open.specs.Path.{context_of}
-use Rattle.first_pass_open.specs.declared.source.Source.{Source}
-use Rattle.first_pass_kinds.specs.declared.next_front.NextFront.{NextFront}
-use Rattle.first_pass_lists.specs.declared.state.PassState.{PassState}
-use Rattle.first_pass_grammar.specs.declared.kind.AfterMarker.{AfterMarker}
-use Rattle.first_pass_grammar.specs.declared.kind.AfterMarker.TheVariants.{OnLine, TaskText, LineEnds, OnlyTag}
 use Rattle.first_pass_containers.specs.declared.openers.Start.{Start}
 use Rattle.first_pass_blocks.specs.declared.state.BlockPass.{BlockPass}
-use Rattle.first_pass_blocks.specs.OpenedFootnotes.{StaysSame, TriesFootnote}
+use Rattle.first_pass_containers.specs.Positions.{may_define}
+use Rattle.first_pass_containers.specs.Starts.{StartMatches, start_opened, after_at, IsAfterMarker, BeginsNoContainer}
+use Rattle.first_pass_kinds.specs.declared.next_front.NextFront.{NextFront}
 use Rattle.first_pass_blocks.specs.Progress.{PassesTo}
-use Rattle.first_pass_blocks.specs.Titles.{ReadsTextOrTitle}
-use Rattle.first_pass_containers.specs.Positions.{Position, InLine, LeafAt, IsNotBefore, ReadsTo, may_define}
-use Rattle.first_pass_containers.specs.Starts.{StartMatches, start_opened, after_at, last_at, IsAfterMarker, FinishesNothing, BeginsNoContainer}
-use Rattle.first_pass_blocks.specs.Views.{state_of, source_of, tree_of, source_options, source_text}
 use Rattle.first_pass_blocks.proofs.Leaves.TextLemmas.{IsAtPlain, plain_leaf, new_text}
 use Rattle.first_pass_blocks.proofs.BlockRead.{passes_state, passes_both, entered_read, state_at, ReachesPlace, place_reached, reached_start, reached_still}
 use Rattle.first_pass_blocks.proofs.BlockRead.{same_parts, leaf_reached}
 use Rattle.first_pass_containers.proofs.Openings.StartLemmas.{start_just_opened, no_start, opened_start, not_after_definition, finishes_none}
-use Rattle.first_pass_containers.proofs.Openings.Indented.{only_leaf, plain_begins_none, start_found, start_missing}
+use Rattle.first_pass_containers.proofs.Openings.Indented.{plain_begins_none, start_found, start_missing}
 use Rattle.first_pass_blocks.proofs.state.BlockPass.parse_containers.Goals.{Then-not-branch, In_ok-open_start, Joined-not-branch, in-OnLine}
 use Rattle.first_pass_blocks.proofs.state.BlockPass.parse_containers.Goals.{in_default-matches, then-not-branch+in-Some+in_ok-open_start+else-not-matches}
 use Rattle.first_pass_blocks.proofs.state.BlockPass.parse_containers.Goals.{else-not-branch}
@@ -87,7 +82,7 @@ opens_note first old now mid p q t is r tries =
         no_empty = yes.3.none;
         none = ap (λ (f : NextFront). f.is_known) yes.2 ∙ r.none;
         here = (from.0, omega arith, omega arith, omega arith);
-        opened = passes_both (source_of old) first.line old now mid (InLine first) (InLine p) (InLine q) r.opened steps;
+        opened = passes_both r.opened steps;
       };
       less = yes.1;
       just = yes.3;
@@ -132,21 +127,21 @@ record IsBegun (over : Source) (first : Place) (mid : BlockPass) (p new : Place)
   here : IsNotBefore over.text.now first new
   reads : ReadsTo over first.line (state_of mid) q (InLine p) (after_at new (line_end new) after)
 
-begun : (first : Place) (old mid : BlockPass) (p new : Place) (told : Start) (q : PassState) → IsUtf8 (source_text old) → IsForest (tree_of mid)
+begun : {first : Place} {old mid : BlockPass} {p new : Place} {told : Start} {q : PassState} → IsUtf8 (source_text old) → IsForest (tree_of mid)
     → IsTried first old mid p → IsFound (source_of old) mid p new told → q ≡ start_opened new.line told (line_end new) (state_of mid)
     → IsBegun (source_of old) first mid p new told.after q
-begun first old mid p new told q utf8 forest i f opened =
+begun {first = first} {old = old} {mid = mid} {p = p} {new = new} {told = told} {q = q} utf8 forest i f opened =
     let over : Source = source_of old in
-    let s = opened_start over (state_of mid) p utf8 i.reached.here.0 forest i.reached.no_empty first.line i.reached.here.1 i.bare f.0 new told q f.1
-    f.2 f.3 opened in
+    let reached = i.reached.here in
+    let s = opened_start over (state_of mid) p utf8 reached.0 forest i.reached.no_empty first.line reached.1 i.bare f.0 new told q f.1 f.2 f.3 opened in
     let line = s.2.1 in
     let stop = s.2.2 in
     let less = s.1 in
-    let at = place_length over.text.now p i.reached.here.0 in
+    let at = place_length over.text.now p reached.0 in
     let to = place_length over.text.now new s.2.0 in
-    let low = i.reached.here.1 in
-    let from = i.reached.here.2 in
-    let far = i.reached.here.3 in
+    let low = reached.1 in
+    let from = reached.2 in
+    let far = reached.3 in
     record {
       stands = s.0;
       less = less;
@@ -159,9 +154,9 @@ open_start-requires c =
     let p : Place = c.open_footnote.new.place in
     let new : Place = c.start_at.new.place in
     let i = at_place (goal.at.open_start-requires c).Then-not-branch in
-    let s = begun c.args.place c.args.self.now c.open_footnote.new.self p new c.in-Some.start _ c.requires.utf8 c.recall_forest.ensures i
-    (start_found _ _ c.in-Some.start p new c.in-Some.is (i.searched _ new _ c.may_define-may_define.ensures c.start_at.ensures)) refl in
-    subst (λ (z : Source). IsPlaceOf z.text.now new) (sym i.reached.opened.kept.source) s.here.0
+    let found = start_found _ _ c.in-Some.start p new c.in-Some.is (i.searched _ new _ c.may_define-may_define.ensures c.start_at.ensures) in
+    rw i.reached.opened.kept.source (begun {q = start_opened new.line c.in-Some.start (line_end new) (state_of c.open_footnote.new.self)}
+    c.requires.utf8 c.recall_forest.ensures i found refl).here.0
 
 -- a marker after which the line ends is the last
 last_is : (p : Place) (e : ℕ) (a : AfterMarker) → (a ≡ OnLine → ⊥) → after_at p e a ≡ last_at p e a
@@ -175,11 +170,9 @@ at_marker : (c : In_ok-open_start) → IsTried c.args.place c.args.self.now c.op
     → IsBegun c.args.self.now.source c.args.place c.open_footnote.new.self c.open_footnote.new.place c.start_at.new.place c.in-Some.start.after
     c.open_start.new.state
 at_marker c i =
-    let p : Place = c.open_footnote.new.place in
-    begun c.args.place c.args.self.now c.open_footnote.new.self p c.start_at.new.place c.in-Some.start c.open_start.new.state c.requires.utf8
-    c.recall_forest.ensures i
-    (start_found _ _ c.in-Some.start p c.start_at.new.place c.in-Some.is (i.searched _ _ _ c.may_define-may_define.ensures c.start_at.ensures))
-    c.in_ok-open_start.ensures
+    begun c.requires.utf8 c.recall_forest.ensures i
+    (start_found _ _ c.in-Some.start c.open_footnote.new.place c.start_at.new.place c.in-Some.is
+    (i.searched _ _ _ c.may_define-may_define.ensures c.start_at.ensures)) c.in_ok-open_start.ensures
 
 pub parse_after_marker-requires : goal.parse_after_marker-requires
 parse_after_marker-requires c =
@@ -187,8 +180,8 @@ parse_after_marker-requires c =
     let r = (at_place at.Then-not-branch).reached in
     let s = at_marker at.In_ok-open_start (at_place at.Then-not-branch) in
     record {
-      utf8 = subst (λ (z : Source). IsUtf8 z.text.now) (sym r.opened.kept.source) c.requires.utf8;
-      place = subst (λ (z : Source). IsPlaceOf z.text.now c.start_at.new.place) (sym r.opened.kept.source) s.here.0;
+      utf8 = rw r.opened.kept.source c.requires.utf8;
+      place = rw r.opened.kept.source s.here.0;
       after = s.stands;
       none = r.none;
     }
@@ -212,17 +205,14 @@ returns-then-not-matches-clause-block c =
     let there : Position = last_at new (line_end new) after in
     let opens = subst (ReadsTo over first.line mid.state c.open_start.new.state (InLine p)) (last_is new (line_end new) after other) s.reads in
     entered_read c.args.self.now _ c.parse_after_marker.new.self first new after c.in_ok-next-2.next s.here
-    (passes_both over first.line c.args.self.now mid _ (InLine first) (InLine p) there i.reached.opened
-    (passes_state over first.line mid _ (InLine p) there refl refl opens))
+    (passes_both i.reached.opened (passes_state over first.line mid _ (InLine p) there refl refl opens))
     c.in_ok-next-2.ensures.block
 
 -- after a footnote definition or another container
 nested : (c : Joined-not-branch) → IsNested c.args.place c.args.self.now c.if-not-branch.self c.loop-place.place c.if-not-branch.place
 nested c =
-    let over = c.args.self.now.source in
     let first : Place = c.args.place in
     let old : BlockPass = c.args.self.now in
-    let now : BlockPass = c.loop-place.self in
     let mid : BlockPass = c.open_footnote.new.self in
     let here : Place = c.loop-place.place in
     let p : Place = c.open_footnote.new.place in
@@ -231,30 +221,31 @@ nested c =
     elim c.if-not-branch.branch [
       | then-not-branch+in-Some+in_ok-open_start+else-not-matches w ↦
           let new : Place = w.start_at.new.place in
-          let no = subst (TriesFootnote now mid here p) w.if-not-branch.true tries in
-          let i = tried first old now mid here p _ w.if-not-branch.true r tries in
-          let f = start_found _ _ w.in-Some.start p new w.in-Some.is (i.searched _ _ _ w.may_define-may_define.ensures w.start_at.ensures) in
-          let s = begun first old mid p new w.in-Some.start w.open_start.new.state c.requires.utf8 w.recall_forest.ensures i f w.in_ok-open_start.ensures in
-          let on : w.in-Some.start.after ≡ OnLine = elim w.match-matches.branch [
+          let start : Start = w.in-Some.start in
+          let no = subst (TriesFootnote c.loop-place.self mid here p) w.if-not-branch.true tries in
+          let i = tried first old c.loop-place.self mid here p _ w.if-not-branch.true r tries in
+          let f = start_found _ _ start p new w.in-Some.is (i.searched _ _ _ w.may_define-may_define.ensures w.start_at.ensures) in
+          let s = begun {told = start} c.requires.utf8 w.recall_forest.ensures i f w.in_ok-open_start.ensures in
+          let on : start.after ≡ OnLine = elim w.match-matches.branch [
             | in-OnLine v ↦ v.in-OnLine.is
             | in_default-matches v ↦ (let a = v.matches-is in let b = w.if-not-matches.false in cc)
           ] in
-          let opens = subst (λ (a : AfterMarker). ReadsTo over first.line mid.state w.open_start.new.state (InLine p) (after_at new (line_end new) a)) on
+          let opens = subst (λ (a : AfterMarker). ReadsTo old.source first.line mid.state w.open_start.new.state (InLine p) (after_at new (line_end new) a)) on
           s.reads in
           let just = subst FinishesNothing (sym w.in_ok-open_start.ensures)
-          (start_just_opened new.line (line_end new) w.in-Some.start mid.state on i.reached.no_empty) in
+          (start_just_opened new.line (line_end new) start mid.state on i.reached.no_empty) in
           rw (w.self-is, w.place-is) (record {
             reached = record {
               no_empty = just.none;
               none = i.reached.none;
               here = s.here;
-              opened = passes_both over first.line old mid _ (InLine first) (InLine p) (InLine new) i.reached.opened
-                  (passes_state over first.line mid _ (InLine p) (InLine new) refl refl opens);
+              opened = passes_both i.reached.opened
+                  (passes_state old.source first.line mid _ (InLine p) (InLine new) refl refl opens);
             };
             less = subst (λ (z : Place). length new.rest.left < length z.rest.left) no.1 s.less;
             just = just;
           })
-      | else-not-branch w ↦ rw (w.self-is, w.place-is) (opens_note first old now mid here p _ w.if-not-branch.false r tries)
+      | else-not-branch w ↦ rw (w.self-is, w.place-is) (opens_note first old c.loop-place.self mid here p _ w.if-not-branch.false r tries)
     ]
 
 pub loop-place-smaller : goal.loop-place-smaller
@@ -288,7 +279,7 @@ returns-then-is_at_plain-clause-block c =
     let n = nested (goal.at.returns-then-is_at_plain-clause-block c).Joined-not-branch in
     let plain = subst IsAtPlain c.place-in-loop-place.view_is
     (c.is_at_plain.ensures.owed c.if-is_at_plain.true, c.is_at_plain.ensures.plain c.if-is_at_plain.true) in
-    let text : ReadsTextOrTitle mid new (offset p) next = subst (λ (at : ℕ). ReadsTextOrTitle mid new at next) c.offset.ensures
+    let text = rw c.offset.ensures at
     (new_text mid new mid.state c.offset.result next (not_after_definition mid.state n.just) (sym (finishes_none c.offset.result mid.state n.just)) e.source
     e.more e.block (e.fits tt) e.state) in
     leaf_reached n.reached (only_leaf old.source mid.state p first.line (plain_begins_none p.rest plain.0 plain.1))

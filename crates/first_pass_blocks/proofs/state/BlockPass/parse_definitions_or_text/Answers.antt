@@ -1,16 +1,15 @@
-use Rattle.std.proofs.Common.{refl, ap, ◌∙◌, IsCharBoundary, subst, sym}
+use Rattle.std.proofs.Common.{refl, ap, ◌∙◌}
 use Rattle.first_pass_grammar.proofs.Common.{Place}
-use Rattle.first_pass_lists.specs.Closing.{list_finished}
-use Rattle.first_pass_blocks.proofs.Leaves.KindBlocks.{found_boundary}
+use Rattle.first_pass_blocks.proofs.Common.{list_finished}
+use Rattle.first_pass_blocks.proofs.Leaves.KindBlocks.{stands_at}
 use Rattle.first_pass_blocks.proofs.Leaves.TextLemmas.{RunRead, run_read, run_line, run_text_or_title}
 use Rattle.first_pass_blocks.specs.declared.definition.RunEnd.TheVariants.{Paragraph}
-use Rattle.first_pass_blocks.proofs.state.BlockPass.parse_definitions_or_text.Goals.{In-Paragraph}
 use Rattle.first_pass_blocks.proofs.BlockRead.{state_at}
-use Rattle.first_pass_open.specs.declared.source.Source.{Source}
+use Rattle.first_pass_blocks.proofs.state.BlockPass.parse_definitions_or_text.Goals.{In-Paragraph}
 use Rattle.first_pass_blocks.proofs.state.BlockPass.parse_definitions_or_text.Goals as goal
 
 pub parse_definitions-requires-clause-boundary : goal.parse_definitions-requires-clause-boundary
-parse_definitions-requires-clause-boundary c = found_boundary _ _ _ c.requires.here.utf8 c.requires.here.place c.requires.at
+parse_definitions-requires-clause-boundary c = (stands_at c.requires.here.utf8 c.requires.here.place c.requires.at).boundary
 
 pub returns-in-NextLine-clause-block : goal.returns-in-NextLine-clause-block
 returns-in-NextLine-clause-block c =
@@ -30,8 +29,7 @@ run_before c =
 pub parse_text_or_title-requires : goal.parse_text_or_title-requires
 parse_text_or_title-requires c =
     let run = (run_before (goal.at.parse_text_or_title-requires c).In-Paragraph).run in
-    subst (λ (z : Source). IsCharBoundary z.text.now c.in-Paragraph.text) (sym c.in_ok-line.ensures.kept.source)
-    (subst (IsCharBoundary c.args.self.now.source.text.now) (sym run.says) run.stands.boundary)
+    rw (c.in_ok-line.ensures.kept.source, run.says) run.stands.boundary
 
 pub returns-clause-block : goal.returns-clause-block
 returns-clause-block c =

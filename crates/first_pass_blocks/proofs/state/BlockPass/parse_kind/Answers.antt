@@ -1,22 +1,14 @@
 use Rattle.std.proofs.Common.{◌≡◌, ◌≤◌, inl, length, IsCharBoundary, refl, sym, ap, subst, ◌∙◌, arith}
 use Rattle.first_pass_grammar.proofs.Common.{IsForest, Place, offset, line_end, unindented, IsKind, document, lines_from}
-use Rattle.first_pass_names.specs.TableEntries.{names_of, tables_of}
-use Rattle.first_pass_names.proofs.NameLemmas.{extends_none}
-use Rattle.first_pass_open.proofs.PlaceLemmas.{all_keep, place_end}
-use Rattle.first_pass_lists.specs.Closing.{list_finished, with_tree}
-use Rattle.first_pass_lists.specs.declared.state.PassState.{PassState}
-use Rattle.first_pass_open.specs.Between.{line_end_at}
-use Rattle.first_pass_kinds.specs.BlockStart.{IsFoundAt, kind_of, marked_kind}
+use Rattle.first_pass_blocks.proofs.Common.{names_of, tables_of, extends_none, place_end, with_tree, PassState, line_end_at, marked_kind, Says, kind_says}
+use Rattle.first_pass_blocks.proofs.Common.{list_finished, line_or, count, list_finished_blank, line_or-below, place_before_end, list_finished_none}
+use Rattle.first_pass_blocks.proofs.Common.{ordered_none}
+use Rattle.first_pass_kinds.specs.BlockStart.{IsFoundAt, kind_of}
 use Rattle.first_pass_kinds.specs.declared.kinds.MarkedLeaf.{MarkedLeaf}
-use Rattle.first_pass_kinds.proofs.KindLemmas.{Says, kind_says}
-use Rattle.first_pass_containers.specs.Positions.{line_or}
-use Rattle.first_pass_order.proofs.CountLemmas.{count, blank_count}
-use Rattle.first_pass_containers.proofs.OrderSteps.{list_finished_blank, line_or-below, place_before_end}
-use Rattle.first_pass_blocks.proofs.Leaves.KindBlocks.{html_read, leaf_read, marked_leaf, block_stands, columns_are, AddsHtml, found_boundary}
-use Rattle.first_pass_containers.proofs.Leaves.LeafLemmas.{ready_blank_leaf, line_end_of}
-use Rattle.first_pass_lists.proofs.NoEmptyItem.{list_finished_none}
+use Rattle.first_pass_order.proofs.CountLemmas.{blank_count}
+use Rattle.first_pass_blocks.proofs.Leaves.KindBlocks.{html_read, leaf_read, marked_leaf, columns_are, stands_at, AddsHtml}
+use Rattle.first_pass_containers.proofs.Leaves.LeafLemmas.{ready_blank_leaf}
 use Rattle.first_pass_order.proofs.NamedLemmas.{blank_named}
-use Rattle.first_pass_order.proofs.OrderLemmas.{ordered_none}
 use Rattle.first_pass_order.proofs.PopOrder.{read_blank_read}
 use Rattle.first_pass_order.proofs.WholeKept.{blank_whole}
 use Rattle.first_pass_blocks.proofs.BlockRead.{state_at}
@@ -24,10 +16,9 @@ use Rattle.first_pass_blocks.proofs.state.BlockPass.parse_kind.Goals as goal
 
 pub next_line-requires : goal.next_line-requires
 next_line-requires c =
-    let i = all_keep c.args.self.now.source.text.now c.args.place.line c.args.place.rest c.requires.here.utf8 c.requires.here.place in
-    let e = c.requires.found.at_is in
-    let l = ap length (c.as_bytes.ensures.value) in
-    omega (arith, i.within)
+    let i = (stands_at c.requires.here.utf8 c.requires.here.place c.requires.found.at_is).boundary.0 in
+    let l = ap length c.as_bytes.ensures.value in
+    omega arith
 
 pub returns-in-Blank-clause-block : goal.returns-in-Blank-clause-block
 returns-in-Blank-clause-block c =
@@ -36,9 +27,8 @@ returns-in-Blank-clause-block c =
     let p = c.args.place in
     let old : PassState = self.state in
     let next = c.next_line.result in
-    let i = all_keep text p.line p.rest c.requires.here.utf8 c.requires.here.place in
-    let ends : next ≡ line_end p = c.next_line.ensures.value ∙ ap (λ t. line_end_at t c.args.at) c.as_bytes.ensures.value
-    ∙ ap (line_end_at text) c.requires.found.at_is ∙ line_end_of text p i in
+    let i = stands_at c.requires.here.utf8 c.requires.here.place c.requires.found.at_is in
+    let ends : next ≡ line_end p = c.next_line.ensures.value ∙ ap (λ t. line_end_at t c.args.at) c.as_bytes.ensures.value ∙ i.ends in
     let last = subst (IsCharBoundary text) (sym ends) (place_end text p c.requires.here.utf8 c.requires.here.place) in
     let from = line_or old.tree p.line (offset p) in
     let below : from ≤ offset p = line_or-below old.tree p.line (offset p) (omega arith) in
@@ -66,7 +56,7 @@ returns-in-Blank-clause-block c =
 
 pub parse_html_block_type_6_or_7-requires : goal.parse_html_block_type_6_or_7-requires
 parse_html_block_type_6_or_7-requires c = record {
-  boundary = found_boundary _ _ _ c.requires.here.utf8 c.requires.here.place c.requires.found.at_is;
+  boundary = (stands_at c.requires.here.utf8 c.requires.here.place c.requires.found.at_is).boundary;
   columns = (columns_are _ _ c.requires.found.columns_are (subst (Says c.args.place.rest) (ap kind_of c.in-HtmlToBlank.is)
       (kind_says c.args.self.now.source.options c.args.place.rest (kind_of c.args.found) c.requires.found.kind))).1;
 }
@@ -92,7 +82,7 @@ returns-in_ok-next-in-HtmlToBlank-clause-block c =
       following = e.boundary;
       block = subst (λ (z : PassState). AddsHtml self.source.text.now self.source.options (names_of c.parse_html_block_type_6_or_7.new.allocs) c.args.at
           c.args.columns (unindented p) z.tree tree c.in_ok-next-in-HtmlToBlank.next) rem
-          (e.block (unindented p) (block_stands self.source.text.now p c.args.at c.requires.here.utf8 c.requires.here.place c.requires.found.at_is));
+          (e.block (unindented p) (stands_at c.requires.here.utf8 c.requires.here.place c.requires.found.at_is).here);
     })
 
 pub append_marked-requires : goal.append_marked-requires

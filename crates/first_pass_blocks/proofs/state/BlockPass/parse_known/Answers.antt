@@ -1,11 +1,10 @@
 use Rattle.std.proofs.Common.{◌+◌, drop, refl, subst, ap, ◌∙◌}
 use Rattle.first_pass_grammar.proofs.Common.{line_len, Place}
-use Rattle.first_pass_containers.specs.Entering.{EntersLine}
 use Rattle.first_pass_containers.specs.Starts.{BeginsNoContainer}
 use Rattle.first_pass_blocks.specs.declared.state.BlockPass.{BlockPass}
 use Rattle.first_pass_blocks.proofs.BlockRead.{HasState, IsEntered, line_entered, line_passed, line_leaf_read}
-use Rattle.first_pass_blocks.proofs.state.BlockPass.parse_known.Goals as goal
 use Rattle.first_pass_blocks.proofs.state.BlockPass.parse_known.Goals.{In-Some}
+use Rattle.first_pass_blocks.proofs.state.BlockPass.parse_known.Goals as goal
 
 pub returns-in_default-clause-block : goal.returns-in_default-clause-block
 returns-in_default-clause-block c =
@@ -13,7 +12,7 @@ returns-in_default-clause-block c =
     let start = c.args.start_ix in
     line_passed self _ start c.next_line.result c.enter_known.ensures.utf8 c.requires.within c.requires.boundary refl refl
     (c.next_line.ensures.value ∙ ap (λ bs. start + line_len (drop start bs)) c.as_bytes.ensures.value)
-    (subst (EntersLine self.source self.state c.enter_known.new.state start) c.in_default.is c.enter_known.ensures.entered)
+    (rw c.in_default.is at c.enter_known.ensures.entered)
 
 entered : (c : In-Some) (mid : BlockPass) → HasState c.args.self.now c.enter_known.new.state mid → IsEntered c.args.self.now mid c.args.start_ix c.in-Some.place
 entered c =

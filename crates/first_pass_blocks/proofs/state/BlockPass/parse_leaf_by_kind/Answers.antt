@@ -1,6 +1,6 @@
 use Rattle.std.proofs.Common.{ap, ◌∙◌, arith}
 use Rattle.first_pass_grammar.proofs.Common.{offset, unindented}
-use Rattle.first_pass_open.proofs.PlaceLemmas.{all_keep}
+use Rattle.first_pass_blocks.proofs.Common.{all_keep}
 use Rattle.first_pass_blocks.proofs.state.BlockPass.parse_leaf_by_kind.Goals as goal
 
 pub offset-requires : goal.offset-requires

@@ -1,43 +1,35 @@
 use Rattle.std.proofs.Common.{◌≡◌, ℕ, ◌+◌, List, drop, None, Some, false, IsCharBoundary, refl, sym, ap, subst, ◌∙◌, if◌then◌else◌, Option}
 use Rattle.first_pass_grammar.proofs.Common.{CowStr, LinkDef, line_len, Place, offset, IsPlaceOf, in_table, Rest, reference_definition_at, Context}
-use Rattle.first_pass_open.specs.declared.source.Source.{Source}
-use Rattle.first_pass_open.proofs.PlaceLemmas.{text_place}
-use Rattle.first_pass_names.specs.TableEntries.{tables_of, link_entry}
-use Rattle.first_pass_definitions.specs.Found.{IsReference, IsWritten}
+use Rattle.first_pass_blocks.proofs.Common.{Source, text_place, tables_of, link_entry, IsReference, context_in, line_stops, PutsDefinitions}
 use Rattle.first_pass_blocks.proofs.LinkDefinitions.{one_written, written_here, none_by, found_here, one_more, stops_by, goes_by, line_is_there}
-use Rattle.first_pass_blocks.proofs.LinkDefinitions.{ReferenceFound, same_answers, run_begun, run_flows, run_ends, run_goes_on, defined_none}
-use Rattle.first_pass_blocks.proofs.LinkDefinitions.{text_at, RunWithOne, stops_at, rest_at, puts_none}
-use Rattle.first_pass_blocks.specs.Views.{context_in}
+use Rattle.first_pass_blocks.proofs.LinkDefinitions.{ReferenceFound, run_begun, run_flows, run_ends, run_goes_on, defined_none, text_at, RunWithOne, stops_at}
+use Rattle.first_pass_blocks.proofs.LinkDefinitions.{rest_at, puts_none, same_answers}
+use Rattle.first_pass_definitions.specs.Found.{IsWritten}
 use Rattle.first_pass_blocks.specs.declared.state.BlockPass.{BlockPass}
 use Rattle.first_pass_blocks.proofs.state.BlockPass.parse_run.Goals.{After-rest_of, In_ok-rest}
-use Rattle.first_pass_text.proofs.OrderHeading.{line_stops}
-use Rattle.first_pass_blocks.specs.Runs.{PutsDefinitions}
-use Rattle.first_pass_open.specs.Path.{context_of}
-use Rattle.first_pass_lists.specs.declared.state.PassState.{PassState}
 use Rattle.first_pass_blocks.proofs.state.BlockPass.parse_run.Goals as goal
 
 pub loop-size-init : goal.loop-size-init
 loop-size-init c = record {
   kept = puts_none c.args.self.now;
   boundary = c.requires.boundary;
-  so_far = λ p line at i. (p, line, at, run_begun _ _ _ p _ i);
+  so_far = λ p line at i. (p, line, at, run_begun i);
 }
 
 pub returns : goal.returns
 returns c =
     let first : BlockPass = c.args.self.now in
-    let now : BlockPass = c.loop-size.self in
     let text = first.source.text.now in
     let around = context_in first in
     let nested = in_table first.state.tree.nodes first.state.tree.spine in
     let inv = c.loop-size.invariant in
-    let none = none_by _ c.in_ok-size.field-0 (IsReference nested c.loop-size.at) (same_answers first now c.loop-size.at _ inv.kept c.in_ok-size.ensures.value)
-    c.in_default.is in
+    let none = (none_by _ c.in_ok-size.field-0 (c.in_ok-size.field-0 ≡ None) (IsReference nested c.loop-size.at)
+    (same_answers first c.loop-size.self c.loop-size.at _ inv.kept c.in_ok-size.ensures.value) c.in_default.is).0 in
     record {
       kept = inv.kept;
       run = λ p line at i.
           let r = inv.so_far p line at i in
-          run_flows text around nested p r.0 c.loop-size.at (tables_of first.allocs) (tables_of now.allocs) (sym r.2)
+          run_flows (sym r.2)
           (λ plain. defined_none text around r.0 r.3.stands
           (ap (λ n. reference_definition_at false around (drop n text)) r.2
           ∙ subst (λ z. reference_definition_at z around (drop c.loop-size.at text) ≡ None) plain none)) r.3;
@@ -99,17 +91,13 @@ one_read : (c : In_ok-rest) (p : Place) → p.line ≡ c.args.line → offset p 
     c.next_line-next.result (tables_of c.args.self.now.allocs) (tables_of c.define_link.new.self))
     × (c.loop-size.line ≡ run.place.line)
 one_read c p line at i =
-    let first : BlockPass = c.args.self.now in
-    let found : ℕ × CowStr × LinkDef = (c.in-Some.size, c.in-Some.label, c.in-Some.definition) in
-    let r = c.loop-size.invariant.so_far p line at i in
-    let one = one_more (bytes_of c) (context_in first) (in_table first.state.tree.nodes first.state.tree.spine) r.0 c.loop-size.at found
-    c.next_line-next.result c.requires.utf8 r.3.stands r.2 (definition_found c) (next_is c) in (
+    let r = c.loop-size.invariant.so_far p line at i in (
       record {
         place = r.0;
         mid = tables_of c.loop-size.self.allocs;
-        entry = link_entry (found.1, found.2);
+        entry = link_entry (c.in-Some.label, c.in-Some.definition);
         so_far = r.3;
-        one = one;
+        one = one_more c.requires.utf8 r.3.stands r.2 (definition_found c) (next_is c);
         defined = λ plain. c.in_ok-define_link.ensures.tables;
       },
       sym r.1,
@@ -122,22 +110,18 @@ answer_for around bs = if stops_at around bs then None else Some (rest_at around
 line_answered : (c : In_ok-rest) → c.in_ok-rest.rest ≡ answer_for (context_in c.args.self.now) (bytes_after c)
 line_answered c =
     let kept = c.loop-size.invariant.kept in
-    let path_is = ap (λ (z : Source). context_of z.options c.loop-size.self.state.tree) kept.source
-    ∙ ap (λ (z : PassState). context_of c.args.self.now.source.options z.tree) kept.state in
-    c.in_ok-rest.ensures.value ∙ ap (λ around. answer_for around c.rest_of.result.now) path_is
+    (rw (kept.source, kept.state) at c.in_ok-rest.ensures.value)
     ∙ ap (answer_for (context_in c.args.self.now)) (c.rest_of.ensures.value ∙ ap (drop c.next_line-next.result) (text_is c))
 
 pub returns-in_default-rest : goal.returns-in_default-rest
 returns-in_default-rest c =
     let here = (goal.at.returns-in_default-rest c).In_ok-rest in
-    let first : BlockPass = c.args.self.now in
-    let around = context_in first in
+    let around = context_in c.args.self.now in
     record {
       kept = one_put (goal.at.returns-in_default-rest c).After-rest_of;
       run = λ p line at i.
           let w = one_read here p line at i in
-          run_ends (bytes_of here) around (in_table first.state.tree.nodes first.state.tree.spine) p c.next_line-next.result
-          (tables_of first.allocs) (tables_of c.define_link.new.self) w.0 c.loop-size.line w.1
+          run_ends w.0 c.loop-size.line w.1
           (λ within. stops_by (stops_at around (bytes_after here)) (rest_at around (bytes_after here)) c.in_ok-rest.rest (line_answered here)
           c.in_default-rest.is);
     }
@@ -145,10 +129,9 @@ returns-in_default-rest c =
 pub loop-size-preserved : goal.loop-size-preserved
 loop-size-preserved c =
     let here = (goal.at.loop-size-preserved c).In_ok-rest in
-    let first : BlockPass = c.args.self.now in
     let text = bytes_of here in
     let next = c.next_line-next.result in
-    let around = context_in first in
+    let around = context_in c.args.self.now in
     let goes = goes_by (stops_at around (bytes_after here)) (rest_at around (bytes_after here)) c.in-Some-rest.rest c.in_ok-rest.rest (line_answered here)
     c.in-Some-rest.is in
     let there = (text_place text next around.path c.requires.utf8 (next_begins here)).0 in
@@ -161,7 +144,6 @@ loop-size-preserved c =
         text_at text around.path next,
         refl,
         place_is,
-        run_goes_on text around (in_table first.state.tree.nodes first.state.tree.spine) p next (tables_of first.allocs) (tables_of c.define_link.new.self)
-            (one_read here p line at i).0 c.requires.utf8 (line_is_there text around next goes.0) goes.0,
+        run_goes_on (one_read here p line at i).0 c.requires.utf8 (line_is_there text around next goes.0) goes.0,
       );
     }

@@ -1,8 +1,6 @@
 use Rattle.std.proofs.Common.{◌≡◌, ◌-◌, length, IsCharBoundary}
 use Rattle.first_pass_grammar.proofs.Common.{Place, offset, IsPlaceOf, in_table}
-use Rattle.first_pass_names.specs.TableEntries.{tables_of}
-use Rattle.first_pass_blocks.specs.Runs.{PutsDefinitions}
-use Rattle.first_pass_blocks.specs.Views.{context_in}
+use Rattle.first_pass_blocks.proofs.Common.{tables_of, PutsDefinitions, context_in}
 use Rattle.first_pass_blocks.proofs.LinkDefinitions.{RunSoFar}
 use Rattle.first_pass_blocks.proofs.state.BlockPass.parse_run.Given as goal
 

@@ -1,17 +1,12 @@
-use Rattle.std.proofs.Common.{◌≡◌, IsUtf8, inl, inr, ℕ, ◌+◌, List, drop, Option, false, Some, None, refl, subst, ◌∙◌, if◌then◌else◌, ap, arith, sym}
+use Rattle.std.proofs.Common.{◌≡◌, IsUtf8, inl, inr, ℕ, ◌+◌, List, drop, Option, false, Some, None, refl, subst, ◌∙◌, if◌then◌else◌, ap, arith}
 use Rattle.first_pass_grammar.proofs.Common.{line_len, Rest, Place, line_rest, place_at, line_end, IsPlaceOf, Context, is_ordinary_after_tag, document}
-use Rattle.first_pass_grammar.proofs.Common.{lines_from}
-use Rattle.first_pass_blocks.specs.Views.{context_in}
-use Rattle.first_pass_open.proofs.PlaceLemmas.{text_place}
-use Rattle.first_pass_order.proofs.OrderLemmas.{ordered_none}
-use Rattle.first_pass_containers.proofs.OrderSteps.{ordered_at_place, place_before_end}
-use Rattle.first_pass_names.specs.TableEntries.{tables_of}
+use Rattle.first_pass_blocks.proofs.Common.{context_in, text_place, ordered_none, place_before_end, tables_of}
+use Rattle.first_pass_containers.proofs.OrderSteps.{ordered_at_place}
 use Rattle.first_pass_containers.proofs.Leaves.LeafLemmas.{ready_any_line, ready_its_line}
 use Rattle.first_pass_blocks.specs.declared.state.BlockPass.{BlockPass}
 use Rattle.first_pass_blocks.proofs.BlockRead.{keeps_none}
 use Rattle.first_pass_blocks.proofs.LinkDefinitions.{stops_by, goes_by, rest_at}
 use Rattle.first_pass_blocks.proofs.state.BlockPass.parse_tagged.Goals.{In_ok-scan_flowing_line, In-Some}
-use Rattle.first_pass_containers.specs.Positions.{ReadyLazy}
 use Rattle.first_pass_blocks.proofs.state.BlockPass.parse_tagged.Goals as goal
 
 -- whether the line belongs to the quote, and what is left of it then
@@ -56,8 +51,8 @@ its_line c h =
       its.0,
       its.1,
       u,
-      subst (λ r. IsPlaceOf text (place_at at r)) (sym its.1) here.0,
-      subst (λ (r : Rest). line_end (place_at at r) ≡ at + line_len (drop at text)) (sym its.1) here.1,
+      rw its.1 here.0,
+      rw its.1 here.1,
     )
 
 pub returns-in_ok-next-in-Some-clause-block : goal.returns-in_ok-next-in-Some-clause-block
@@ -77,10 +72,8 @@ returns-in_ok-next-in-Some-clause-block c =
       kept = e.kept;
       later = omega arith;
       boundary = e.boundary;
-      ready = λ names more tagged. let d = document text self.source.options names in
-          e.ready names more (inr (subst (λ n. ReadyLazy d (tables_of self.allocs) self.state q (lines_from text n)) (sym ends)
-          (subst (λ r. ReadyLazy d (tables_of self.allocs) self.state (place_at at r) (lines_from text (at + line_len (drop at text)))) (sym its.1)
-          (ready_its_line d (tables_of self.allocs) self.state at its.0 tagged))));
+      ready = λ names more tagged. e.ready names more (inr (rw (ends, its.1)
+          (ready_its_line (document text self.source.options names) (tables_of self.allocs) self.state at its.0 tagged)));
       order = λ ordered. e.order (ordered_at_place text self.state.tree at q refl c.requires.boundary its.3 ordered);
       node_bound = omega arith;
     }

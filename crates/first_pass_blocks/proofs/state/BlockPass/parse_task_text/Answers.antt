@@ -1,16 +1,11 @@
-use Rattle.std.proofs.Common.{◌≡◌, inl, ℕ, Some, refl, IsCharBoundary, sym, ap, subst, arith}
+use Rattle.std.proofs.Common.{◌≡◌, inl, ℕ, Some, refl, ap, arith}
 use Rattle.first_pass_grammar.proofs.Common.{all_taken, unindented, document, offset}
-use Rattle.first_pass_open.specs.Between.{AddsBetween, MarkerBetween}
-use Rattle.first_pass_lists.specs.Closing.{with_tree}
-use Rattle.first_pass_lists.specs.declared.state.PassState.{PassState}
-use Rattle.first_pass_open.proofs.PlaceLemmas.{all_keep, read_to}
-use Rattle.first_pass_order.proofs.CountLemmas.{block_count}
-use Rattle.first_pass_containers.proofs.OrderSteps.{read_block, unindented_later}
-use Rattle.first_pass_names.specs.TableEntries.{tables_of, tables_in, names_of}
+use Rattle.first_pass_blocks.proofs.Common.{AddsBetween, MarkerBetween, with_tree, PassState, all_keep, read_to, block_count, unindented_later, tables_of}
+use Rattle.first_pass_blocks.proofs.Common.{tables_in, names_of, line_end_of}
+use Rattle.first_pass_containers.proofs.OrderSteps.{read_block}
 use Rattle.first_pass_blocks.proofs.LinkDefinitions.{written_stay}
 use Rattle.first_pass_order.proofs.NamedLemmas.{task_is_no_text}
-use Rattle.first_pass_containers.proofs.Leaves.LeafLemmas.{line_end_of, ready_text}
-use Rattle.first_pass_containers.specs.TextsAdded.{AddsText}
+use Rattle.first_pass_containers.proofs.Leaves.LeafLemmas.{ready_text}
 use Rattle.first_pass_blocks.proofs.Leaves.TextLemmas.{text_kept}
 use Rattle.first_pass_blocks.proofs.state.BlockPass.parse_task_text.Goals as goal
 
@@ -26,7 +21,7 @@ parse_text-requires-clause-boundary c =
     let text = c.args.self.now.source.text.now in
     let i = all_keep text c.args.place.line c.args.place.rest c.requires.utf8 c.requires.place in
     let e = read_to all_taken _ c.args.place _ _ c.offset.ensures c.scan_indentation.ensures.rest c.place.view_is in
-    subst (IsCharBoundary text) (sym e) i.boundary
+    rw e i.boundary
 
 pub parse_text-requires-clause-marker : goal.parse_text-requires-clause-marker
 parse_text-requires-clause-marker c = task_is_no_text c.args.marker.body c.requires.after.0
@@ -49,7 +44,7 @@ returns-clause-block c =
     let none = c.requires.after.1 in
     let i = all_keep text p.line p.rest c.requires.utf8 c.requires.place in
     let there = read_to all_taken _ p _ _ c.offset.ensures c.scan_indentation.ensures.rest c.place.view_is in
-    let block = subst (λ n. AddsText (document text options now) n (Some c.args.marker) old.tree tree next) there e.block in
+    let block = rw there at e.block in
     let kept = text_kept (document text options now) (names_of self.allocs) old.tree tree (unindented p) (Some c.args.marker) next block i
     mark e.more.names in
     let low = unindented_later text p.line p.rest c.requires.utf8 c.requires.place in

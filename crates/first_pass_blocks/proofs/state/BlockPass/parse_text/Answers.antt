@@ -1,5 +1,5 @@
 use Rattle.std.proofs.Common.{ap, sym, ◌∙◌, option_map}
-use Rattle.first_pass_names.specs.TableEntries.{names_of}
+use Rattle.first_pass_blocks.proofs.Common.{names_of}
 use Rattle.first_pass_blocks.proofs.Leaves.TextsAre.{plain_text_added}
 use Rattle.first_pass_blocks.proofs.state.BlockPass.parse_text.Goals as goal
 

@@ -1,14 +1,15 @@
-use Rattle.std.proofs.Common.{not, subst, sym, ap, ◌∙◌}
+use Rattle.std.proofs.Common.{not, subst, sym, ap, ◌∙◌, option_map}
+use Rattle.first_pass_grammar.proofs.Common.{none_is}
 use Rattle.first_pass_names.specs.TableEntries.{names_of}
 use Rattle.first_pass_flat.specs.FlatAttributes.{attributes_by}
 use Rattle.first_pass_flat.specs.Appended.{AppendsAttributes}
 use Rattle.first_pass_flat.proofs.Appending.{attributes_none, attributes_more, flat_more}
-use Rattle.first_pass_flat.proofs.Sides.{no_attributes_named, none_by}
+use Rattle.first_pass_flat.proofs.Sides.{no_attributes_named}
 use Rattle.first_pass_flat.proofs.attributes.NamedAttributes.append_headings.Goals as goal
 
 pub returns-then-is_none : goal.returns-then-is_none
 returns-then-is_none c =
-    let none = none_by _ _ _ (c.is_none.ensures ∙ ap not c.if-is_none.true) c.attributes_at.ensures in
+    let none = sym c.attributes_at.ensures ∙ ap (option_map _) (none_is _ (c.is_none.ensures ∙ ap not c.if-is_none.true)) in
     subst (AppendsAttributes c.args.self.now c.args.self.now) (sym (no_attributes_named (names_of c.args.allocs.now) c.args.nodes.now none))
     (attributes_none c.args.self.now)
 

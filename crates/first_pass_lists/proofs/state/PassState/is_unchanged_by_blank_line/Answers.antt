@@ -1,6 +1,4 @@
-use Rattle.std.proofs.Common.{not, Some, sym, ap, ◌∙◌, eqb-true}
-use Rattle.first_pass_grammar.proofs.Common.{DefinitionListDefinition}
-use Rattle.first_pass_items.specs.declared.item.ItemBody.TheVariants.{ListItem as ListItemBody}
+use Rattle.std.proofs.Common.{not, sym, ap, ◌∙◌, arith}
 use Rattle.first_pass_lists.proofs.BlankLemmas.{kept_none, kept_closed, kept_item, kept_definition, kept_other, top_is}
 use Rattle.first_pass_lists.proofs.state.PassState.is_unchanged_by_blank_line.Goals as goal
 
@@ -11,18 +9,10 @@ pub returns-in_default : goal.returns-in_default
 returns-in_default c h = kept_closed c.args.self.now (sym c.peek_up.ensures ∙ c.in_default.is) c.if-not-self.false
 
 pub returns-in-ListItem : goal.returns-in-ListItem
-returns-in-ListItem c h =
-    kept_item c.args.self.now
-    (top_is c.args.self.now.tree c.in-Some.ix c.index.result.now (sym c.peek_up.ensures ∙ c.in-Some.is) c.index.ensures
-    ∙ ap (λ b. Some b) (c.in-ListItem.is ∙ ap (λ n. ListItemBody n) (eqb-true c.in-ListItem.columns 0 h)))
-    c.if-not-self.false
+returns-in-ListItem c h = grind (arith, kept_item, top_is)
 
 pub returns-in-DefinitionListDefinition : goal.returns-in-DefinitionListDefinition
-returns-in-DefinitionListDefinition c h =
-    kept_definition c.args.self.now
-    (top_is c.args.self.now.tree c.in-Some.ix c.index.result.now (sym c.peek_up.ensures ∙ c.in-Some.is) c.index.ensures
-    ∙ ap (λ b. Some b) (c.in-DefinitionListDefinition.is ∙ ap (λ n. DefinitionListDefinition n) (eqb-true c.in-DefinitionListDefinition.columns 0 h)))
-    c.if-not-self.false
+returns-in-DefinitionListDefinition c h = grind (arith, kept_definition, top_is)
 
 pub returns-in_default-body : goal.returns-in_default-body
 returns-in_default-body c h =

@@ -9,11 +9,7 @@ use Rattle.first_pass_tree.proofs.Depths.{open-last}
 use Rattle.first_pass_tree.proofs.forest.Tree+Item.cut_from.Goals as goal
 
 pub cut_nodes-requires : goal.cut_nodes-requires
-cut_nodes-requires c =
-    let ns = c.self.inside.nodes.items in
-    let p = subst (λ (v : Forest Item). c.args.first ≡ open_place v.spine + 1) (sym c.self.view_is) c.requires in
-    let w = open-last (depths ns) (reverse c.self.inside.spine.items) c.self.invariant.forest.opened in
-    record { first_in = omega (arith, p, w.within, length-map ns (λ n. n.0)) }
+cut_nodes-requires c = grind (arith, open-last, length-map)
 
 -- the last of these nodes at a depth, if any node is at an index or after it
 abbrev last_from : ℕ → ℕ → List (ℕ × Item) → Option TreeIndex

@@ -1,14 +1,12 @@
-use Rattle.std.proofs.Common.{arith, refl, sym, subst, ap, ◌∙◌, ◌≡◌, ◌+◌, ◌<◌, ◌^◌, length, reverse, drop, true}
+use Rattle.std.proofs.Common.{arith, sym, subst, ◌≡◌, ◌+◌, reverse, drop, true}
 use Rattle.first_pass_items.specs.declared.item.Item.{Item}
-use Rattle.first_pass_tree.specs.Forest.{Forest, IsForest, cut_siblings, is_single_before, open_place}
+use Rattle.first_pass_tree.specs.Forest.{Forest, IsForest, is_single_before, open_place}
 use Rattle.first_pass_tree.proofs.Keeps.{spine-small}
 use Rattle.first_pass_tree.proofs.Cuts.{cut_siblings-is, cut_siblings-single}
 use Rattle.first_pass_tree.proofs.forest.Tree+Item.truncate_siblings.Goals as goal
 
 pub first_place-first-requires : goal.first_place-first-requires
-first_place-first-requires c =
-    let l : length c.self.inside.nodes.items < 2 ^ 63 = omega (arith, c.self.inside.nodes.small, c.self.inside.nodes.ok) in
-    rw c.deref.ensures.value (spine-small _ c.self.inside.spine.items refl c.self.invariant.forest l)
+first_place-first-requires c = grind (arith, spine-small)
 
 pub invariant_of-self : goal.invariant_of-self
 invariant_of-self c =
@@ -22,8 +20,4 @@ invariant_of-self c =
     }
 
 pub returns-then-is_single_before : goal.returns-then-is_single_before
-returns-then-is_single_before c =
-    let f : Forest Item = record { nodes = c.self.inside.nodes.items; spine = reverse c.self.inside.spine.items; current = c.self.inside.cur } in
-    let p : c.first_place-first.result ≡ open_place f.spine + 1 = cc in
-    let t : is_single_before c.args.end (drop c.first_place-first.result f.nodes) ≡ true = cc in
-    cut_siblings-single f c.args.end _ c.self.invariant.forest p t ∙ ap (λ (v : Forest Item). cut_siblings v c.args.end) c.self.view_is
+returns-then-is_single_before c = grind (arith, cut_siblings-single)

@@ -1,19 +1,22 @@
--- The footnote definitions among the nodes of a derived tree are those of its sequence, in the order of the text.
+-- The nodes of a derived tree. Their footnote definitions are those of its sequence, in the order of the text. Each node
+-- that starts on a character boundary meets `HasWholeStart`.
 use Rattle.std.proofs.Common.{◌≡◌, ℕ, suc, Bool, true, false, List, [], ◌∷◌, ◌++◌, length, map, Option, Some, None, refl, sym, ap, ◌∙◌, append_assoc}
-use Rattle.std.proofs.Common.{if◌then◌else◌, option_map}
-use Rattle.first_pass_grammar.proofs.Common.{option_map_or, false≢true, map-append, CowIndex, Item, ItemBody, FencedCodeBlock, FootnoteDefinition}
-use Rattle.first_pass_grammar.proofs.Common.{Paragraph, at_depth, tight_body, tightened, Before, nothing, after_blank, after_block, after_container}
-use Rattle.first_pass_grammar.proofs.Common.{before_end, begins_paragraph, LeafBlock, BlankLine, Block, Opener, QuoteMarker, ItemMarker, FootnoteMarker}
-use Rattle.first_pass_grammar.proofs.Common.{DefinitionMarker, label_of, opened, Skeleton, Nil, Then, Node, is_quote, as_title, row_items, tight_in}
-use Rattle.first_pass_grammar.proofs.Common.{items_of, footnotes_of, Tables, Derives, Document, text_named, What, ALeaf, AFootnote, ATitle, Row, Rows, End}
-use Rattle.first_pass_grammar.proofs.Common.{OneOf, gapped, is_loose, Joins, ItemsOf, DefinitionsTo, end_of_row, continues_list, items_after, list_after}
-use Rattle.first_pass_grammar.proofs.Common.{what_of, row_of, container_row, row_of_leaf, Definitions, definitions_of_row, apart_after, is_untitled}
-use Rattle.first_pass_grammar.proofs.Common.{is_run_row, definitions_first, titled, gap_before, rows_of, AreEachNode}
+use Rattle.std.proofs.Common.{if◌then◌else◌, option_map, ◌+◌, ◌==◌, IsCharBoundary, subst}
+use Rattle.first_pass_grammar.proofs.Common.{option_map_or, false≢true, map-append, CowIndex, Item, ItemBody, FencedCodeBlock, FootnoteDefinition, Paragraph}
+use Rattle.first_pass_grammar.proofs.Common.{at_depth, tight_body, tightened, Before, nothing, after_blank, after_block, after_container, before_end}
+use Rattle.first_pass_grammar.proofs.Common.{begins_paragraph, LeafBlock, BlankLine, Block, Opener, QuoteMarker, ItemMarker, FootnoteMarker, DefinitionMarker}
+use Rattle.first_pass_grammar.proofs.Common.{label_of, opened, Skeleton, Nil, Then, Node, is_quote, as_title, row_items, tight_in, items_of, footnotes_of}
+use Rattle.first_pass_grammar.proofs.Common.{Tables, Derives, Document, text_named, What, ALeaf, AFootnote, ATitle, Row, Rows, End, OneOf, gapped, is_loose}
+use Rattle.first_pass_grammar.proofs.Common.{Joins, ItemsOf, DefinitionsTo, end_of_row, continues_list, items_after, list_after, what_of, row_of}
+use Rattle.first_pass_grammar.proofs.Common.{container_row, row_of_leaf, Definitions, definitions_of_row, apart_after, is_untitled, is_run_row}
+use Rattle.first_pass_grammar.proofs.Common.{definitions_first, titled, gap_before, rows_of, AreEachNode, root_of, cond_both}
 use Rattle.first_pass_grammar.proofs.Each.EachCell.{deeper_nodes}
 use Rattle.first_pass_grammar.proofs.Each.EachLeaf.{IsBlockOf, begins_block, derived_leaves, is_inner}
 use Rattle.first_pass_grammar.proofs.Each.EachRow.{IsEnd, HoldsOfRow, HoldsOfEachRow, each_row, tight_nodes}
-use Rattle.first_pass_places.proofs.MarkedBlocks.{IsReadOpener, derived_blocks, IsReadHead}
+use Rattle.first_pass_places.proofs.MarkedBlocks.{IsReadOpener, derived_blocks, IsReadHead, IsMarked, FirstMarked}
 use Rattle.first_pass_grammar.proofs.Each.EachOpening.{HoldsOfEachHead, HoldsOfEachLeaf}
+use Rattle.first_pass_places.specs.NamePlaces.{HasWholeStart, HaveWholeStarts}
+use Rattle.first_pass_places.specs.RangeEnds.{IsAsciiAt}
 
 -- the start and the index of each footnote definition among nodes, rows or blocks
 abbrev pub Footnotes : Type 0
@@ -249,7 +252,7 @@ sequence_labels d (Node head e kids next) h =
     let third = sequence_labels d next h.2 in
     cc
 
--- the nodes of a derived tree
+-- the labels that the footnote definitions of a derived tree name
 pub derived_labels : (d : Document) (nodes : List (ℕ × Item)) (tables : Tables) (h : Derives d nodes tables)
     → labels_named d (node_footnotes nodes) ≡ footnotes_of h.skeleton
 derived_labels d nodes tables h =
@@ -258,3 +261,104 @@ derived_labels d nodes tables h =
     let holds = each_row IsLeafBlock false nothing (length d.text) h.skeleton leaves in
     ap (labels_named d) (ap node_footnotes h.forest_is ∙ rows_nodes 1 false rows holds ∙ rows_same false nothing (length d.text) h.skeleton leaves)
     ∙ sequence_labels d h.skeleton (derived_blocks d nodes tables h).1
+
+-- No node inside a leaf block has a mark of its own; only the block's first node may.
+plain_mark : (text : List ℕ) (start : ℕ) (body : ItemBody) → IsPlain body → IsCharBoundary text start → HasWholeStart body text start
+plain_mark text start (FencedCodeBlock ix) h b = absurd h
+plain_mark text start (FootnoteDefinition ix) h b = absurd h
+plain_mark text start body h b = b
+
+-- nodes with marks
+plain_marks : (text : List ℕ) (nodes : List (ℕ × Item)) → AreEachNode IsPlain nodes → HaveWholeStarts text nodes
+plain_marks text [] h = tt
+plain_marks text (n ∷ nodes) h = (plain_mark text n.1.start n.1.body h.0, plain_marks text nodes h.1)
+
+block_marks : (text : List ℕ) (items : List (ℕ × Item)) → FirstMarked text items → IsLeafBlock items → HaveWholeStarts text items
+block_marks text [] h k = tt
+block_marks text (x ∷ items) h k = (h, plain_marks text items k.2)
+
+title_marks : (text : List ℕ) (items : List (ℕ × Item)) → HaveWholeStarts text items → HaveWholeStarts text (as_title items)
+title_marks text [] h = tt
+title_marks text (x ∷ items) h = ((λ b. b), h.1)
+
+deeper_marks : (text : List ℕ) (depth : ℕ) (nodes : List (ℕ × Item)) → HaveWholeStarts text nodes → HaveWholeStarts text (at_depth depth nodes)
+deeper_marks text depth [] h = tt
+deeper_marks text depth (n ∷ nodes) h = (h.0, deeper_marks text depth nodes h.1)
+
+tight_mark : (text : List ℕ) (start : ℕ) (body : ItemBody) → HasWholeStart body text start → HasWholeStart (tight_body body) text start
+tight_mark text start Paragraph h = h
+tight_mark text start body h = h
+
+tight_marks : (text : List ℕ) (depth : ℕ) (nodes : List (ℕ × Item)) → HaveWholeStarts text nodes → HaveWholeStarts text (map (tightened depth) nodes)
+tight_marks text depth [] h = tt
+tight_marks text depth (n ∷ nodes) h = (
+  cond_both (n.0 == depth) _ _ (IsMarked text) (λ t b. tight_mark text n.1.start n.1.body (h.0 b)) (λ t. h.0),
+  tight_marks text depth nodes h.1,
+)
+
+both_marks : (text : List ℕ) (nodes more : List (ℕ × Item)) → HaveWholeStarts text nodes → HaveWholeStarts text more → HaveWholeStarts text (nodes ++ more)
+both_marks text [] more h k = k
+both_marks text (n ∷ nodes) more h k = (h.0, both_marks text nodes more h.1 k)
+
+-- each of these footnote definitions has an ASCII mark
+abbrev AreMarked : List ℕ → Footnotes → Type 0
+AreMarked text [] = Unit {0}
+AreMarked text (f ∷ fs) = IsAsciiAt text (f.0 + 1) × AreMarked text fs
+
+both_marked : (text : List ℕ) (fs gs : Footnotes) → AreMarked text fs → AreMarked text gs → AreMarked text (fs ++ gs)
+both_marked text [] gs h k = k
+both_marked text (f ∷ fs) gs h k = (h.0, both_marked text fs gs h.1 k)
+
+parts_marked : (text : List ℕ) (fs gs : Footnotes) → AreMarked text (fs ++ gs) → AreMarked text fs × AreMarked text gs
+parts_marked text [] gs h = (tt, h)
+parts_marked text (f ∷ fs) gs h = let parts = parts_marked text fs gs h.1 in ((h.0, parts.0), parts.1)
+
+opener_marked : (d : Document) (start : ℕ) (opener : Opener) → IsReadOpener d start opener → AreMarked d.text (opener_footnotes start opener)
+opener_marked d start (FootnoteMarker columns index label) h = (h.0, tt)
+opener_marked d start opener h = tt
+
+sequence_marked : (d : Document) (s : Skeleton) → HoldsOfEachHead (IsReadHead d) s → AreMarked d.text (sequence_footnotes s)
+unfolding HoldsOfEachHead sequence_footnotes
+sequence_marked d Nil h = tt
+sequence_marked d (Then leaf next) h = sequence_marked d next h
+sequence_marked d (Node head e kids next) h =
+    both_marked d.text (opener_footnotes head.start head.opener) (sequence_footnotes kids ++ sequence_footnotes next)
+    (opener_marked d head.start head.opener h.0)
+    (both_marked d.text (sequence_footnotes kids) (sequence_footnotes next) (sequence_marked d kids h.1) (sequence_marked d next h.2))
+
+-- the nodes of rows have marks if the footnote definitions and the first items of leaf blocks have
+row_marks : (text : List ℕ) (depth : ℕ) (tight loose : Bool) (start : ℕ) (w : What) (inner : Rows) → HoldsOfRow (FirstMarked text) w inner
+    → HoldsOfRow IsLeafBlock w inner → AreMarked text (what_footnotes start w) → HaveWholeStarts text (row_items depth tight loose start w)
+row_marks text depth true loose start (ALeaf block) inner h k m =
+    tight_marks text depth (at_depth depth block.items) (deeper_marks text depth block.items (block_marks text block.items h.0 k.0))
+row_marks text depth false loose start (ALeaf block) inner h k m = deeper_marks text depth block.items (block_marks text block.items h.0 k.0)
+row_marks text depth tight loose start (AFootnote index e) inner h k m = ((λ b. m.0), tt)
+row_marks text depth tight loose start (ATitle block) inner h k m =
+    deeper_marks text depth (as_title block.items) (title_marks text block.items (block_marks text block.items h.0 k.0))
+row_marks text depth tight loose start w inner h k m = ((λ b. b), tt)
+
+rows_marks : (text : List ℕ) (depth : ℕ) (tight : Bool) (rows : Rows) → HoldsOfEachRow (FirstMarked text) rows → HoldsOfEachRow IsLeafBlock rows
+    → AreMarked text (row_footnotes rows) → HaveWholeStarts text (items_of depth tight rows)
+unfolding HoldsOfEachRow items_of
+rows_marks text depth tight End h k m = tt
+rows_marks text depth tight (OneOf row inner next) h k m =
+    let own : List (ℕ × Item) = row_items depth tight (is_loose inner) row.start row.what in
+    let below : List (ℕ × Item) = items_of (suc depth) (tight_in tight (is_loose inner) row.what) inner in
+    let beside : List (ℕ × Item) = items_of depth tight next in
+    let first = parts_marked text (what_footnotes row.start row.what) (row_footnotes inner ++ row_footnotes next) m in
+    let rest = parts_marked text (row_footnotes inner) (row_footnotes next) first.1 in
+    both_marks text own (below ++ beside) (row_marks text depth tight (is_loose inner) row.start row.what inner h.0 k.0 first.0)
+    (both_marks text below beside (rows_marks text (suc depth) (tight_in tight (is_loose inner) row.what) inner h.1 k.1 rest.0)
+    (rows_marks text depth tight next h.2 k.2 rest.1))
+
+-- each node of a derived tree that starts between characters has a whole start
+pub derived_marks : (d : Document) (nodes : List (ℕ × Item)) (tables : Tables) → Derives d nodes tables → HaveWholeStarts d.text nodes
+derived_marks d nodes tables h =
+    let s : Skeleton = h.skeleton in
+    let n : ℕ = length d.text in
+    let rows : Rows = rows_of false nothing n s in
+    let blocks = derived_blocks d nodes tables h in
+    let leaves = leaves_plain d nodes tables h in
+    let marked = subst (AreMarked d.text) (sym (rows_same false nothing n s leaves)) (sequence_marked d s blocks.1) in
+    let all = rows_marks d.text 1 false _ (each_row (FirstMarked d.text) false nothing n s blocks.0) (each_row IsLeafBlock false nothing n s leaves) marked in
+    subst (HaveWholeStarts d.text) (sym h.forest_is) (both_marks d.text (root_of n ∷ []) (items_of 1 false rows) ((λ b. b), tt) all)
