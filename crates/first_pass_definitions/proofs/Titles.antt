@@ -92,7 +92,7 @@ stop_low close b c h = (grind (arith, nat_tests, c, h), grind (arith, nat_tests,
 pub title_begins : (b close : ℕ) → title_end b ≡ Some close → (b < ascii_end) × ClosesTitle close
 title_begins b close h = (grind (arith, nat_tests, h), grind (arith, nat_tests, h))
 
--- reading of a title's line continues at these bytes, and they escape nothing
+-- reading of a title's line does not stop at a byte of title text
 text_continues : (close b : ℕ) → ClosesTitle close → is_title_text b ≡ true → stops_title_line close b ≡ false
 text_continues close b c h = grind (arith, nat_tests, c, h)
 
@@ -124,7 +124,7 @@ left-nil : (prefix : List ℕ → Option ℕ) (at : ℕ) → left_of prefix at [
 unfolding left_of joined with_line_feeds
 left-nil prefix at = refl
 
--- if 0, a line feed and the first of some bytes fail a test, the first byte fails it too if line feeds are for line endings
+-- A test that fails at 0, at a line feed and at the first byte also fails at the first byte once line feeds replace line endings.
 fed_fails : (p : ℕ → Bool) → p 0 ≡ false → p line_feed ≡ false → (cs : List (ℕ × ℕ)) → p (slice_index (bytes_of cs) 0) ≡ false
     → p (slice_index (bytes_of (with_line_feeds cs)) 0) ≡ false
 unfolding with_line_feeds

@@ -91,7 +91,7 @@ abbrev pub Shrinks : ℕ → List Place → Opening → Type 0
 Shrinks most lines (OpensLeaf leaf there left) = IsShorter most lines there left × (only_blanks there ≡ None)
 Shrinks most lines (OpensNode head inside following) = IsShorter most lines inside following
 
--- A leaf block after which blocks continue at the next line shrinks what is left, if no more lines are left.
+-- If blocks continue at the next line after a leaf block, and no more lines are left than before, less of the text is left.
 line_shrinks : (most : ℕ) (lines : List Place) (o : Opening) → LeavesLines (λ left. length left ≤ length lines) o → Shrinks most lines o
 line_shrinks most lines (OpensLeaf leaf there left) (line, less) = ((less, λ same. rw line (omega arith)), rw line)
 line_shrinks most lines (OpensNode head inside following) h = absurd h
@@ -130,38 +130,39 @@ fence_found text options names start count places e =
     found_also (found_then info lines) (block_with start e (FencedCodeBlock info.value) lines.value)
     (λ later are. record { chain = lines.value; info = info.value; names = are.0; lines = are.1; items_are = refl })
 
--- what each kind opens
-abbrev pub Opens : Names → (Names → Opening → Type 0) → Type 0
-Opens names Are = Found names Opening Are
+-- an opening that is found
+abbrev pub FoundOpening : Names → (Names → Opening → Type 0) → Type 0
+FoundOpening names Are = Found names Opening Are
 
 opens_extent : (names : Names) (kind : Kind) (p : Place) (e : Extent) (Are : Names → List (ℕ × Item) → Type 0)
-    → Found names (List (ℕ × Item)) Are → Opens names (λ later o. OpensExtent kind p e (Are later) o)
+    → Found names (List (ℕ × Item)) Are → FoundOpening names (λ later o. OpensExtent kind p e (Are later) o)
 opens_extent names kind p e Are items =
     found_also items (OpensLeaf (leaf_block kind p items.value false) Line e.left) (λ later are. (items.value, are, refl))
 
 opens_html : (text : List ℕ) (options : Options) (names : Names) (kind : Kind) (p : Place) (e : Extent)
-    → Opens names (λ later o. OpensExtent kind p e (IsHtml (document text options later) (offset (unindented p)) (indent p.rest) e.places e.«end») o)
+    → FoundOpening names (λ later o. OpensExtent kind p e (IsHtml (document text options later) (offset (unindented p)) (indent p.rest) e.places e.«end») o)
 opens_html text options names kind p e =
     let start : ℕ = offset (unindented p) in
     opens_extent names kind p e (λ later. IsHtml (document text options later) start (indent p.rest) e.places e.«end»)
     (html_found text options names start (indent p.rest) e.places e.«end»)
 
 opens_text : (text : List ℕ) (options : Options) (names : Names) (path : List Container) (p : Place) (lines : List Place) (marker : Option Item)
-    → Opens names (λ later o. OpensText (document text options later) path p lines marker o)
+    → FoundOpening names (λ later o. OpensText (document text options later) path p lines marker o)
 unfolding OpensText
 opens_text text options names path p lines marker =
     let found = text_found names text options path (unindented p) marker lines in
     found_also found (OpensLeaf (leaf_block Paragraph p found.value.items false) Line found.value.left) (λ later is. (found.value, is, refl))
 
 opens_beyond : (text : List ℕ) (options : Options) (names : Names) (path : List Container) (definitions : List LinkEntry) (beyond : Beyond)
-    → Opens names (λ later o. OpensBeyond (document text options later) path definitions beyond o)
+    → FoundOpening names (λ later o. OpensBeyond (document text options later) path definitions beyond o)
 opens_beyond text options names path definitions (Ended q left) = found_here (OpensLeaf (Block (run_block q definitions)) Line left) (λ later. refl)
 opens_beyond text options names path definitions (FlowsOn q further) =
     let found = text_found names text options path q None further in
     found_also found (OpensLeaf (Block (flowing_block q definitions found.value.items)) Line found.value.left) (λ later is. (found.value, is, refl))
 
+-- what each kind opens
 opens_kind : (text : List ℕ) (options : Options) (names : Names) (path : List Container) (p : Place) (lines : List Place) (kind : Kind)
-    → HasEnd (all_taken p.rest).left kind → Opens names (λ later o. OpensAs (document text options later) path p lines kind o)
+    → HasEnd (all_taken p.rest).left kind → FoundOpening names (λ later o. OpensAs (document text options later) path p lines kind o)
 unfolding OpensAs OpensRun
 opens_kind text options names path p lines Blank ends = found_here (OpensLeaf BlankLine Line lines) (λ later. refl)
 opens_kind text options names path p lines IndentedCode ends =

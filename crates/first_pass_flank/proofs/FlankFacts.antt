@@ -46,7 +46,7 @@ pub last_char_by : (A : Type 0) (text whole front : List ℕ) (r : Option ℕ)
 last_char_by A text whole front None same utf8 scalar parts = sym (last_char_none text (ap length (sym same) ∙ parts.0))
 last_char_by A text whole front (Some c) same utf8 scalar parts = sym (last_char_is text front c utf8 scalar (sym same ∙ parts))
 
--- the tests of a run outside rows, by white space and punctuation after and before it: first for a star, then for an underscore
+-- the tests of a run outside rows, by white space and punctuation after and before it: first for an asterisk, then for an underscore
 module _ (wa pa wb pb : Bool) where
   open_tests : (cond wa false (cond (not pa) true (cond wb true (pb && true))) ≡ not wa && (not pa || (wb || pb)))
       × (cond wa false (cond wb true (pb && true)) ≡ (not wa && (not pa || (wb || pb))) && (not (not wb && (not pb || (wa || pa))) || pb))
@@ -64,19 +64,19 @@ module _ (r : DelimiterRun) where
   pub emphasis_opens : (before after : Option ℕ)
       → GoesBy asterisk can_open is_left_flanking (between before after) × GoesBy underscore can_open underscore_opens (between before after)
   unfolding can_open opens_between
-  emphasis_opens before None = (λ plain star. refl, λ plain line. refl)
-  emphasis_opens None (Some a) = (λ plain star. grind (arith, nat_tests), λ plain line. grind (arith, nat_tests))
+  emphasis_opens before None = (λ plain asterisk_is. refl, λ plain underscore_is. refl)
+  emphasis_opens None (Some a) = (λ plain asterisk_is. grind (arith, nat_tests), λ plain underscore_is. grind (arith, nat_tests))
   emphasis_opens (Some b) (Some a) = (
-    λ plain star. rw (plain, star) (open_tests (is_whitespace a) (is_punctuation a) (is_whitespace b) (is_punctuation b)).0,
-    λ plain line. rw (plain, line) (open_tests (is_whitespace a) (is_punctuation a) (is_whitespace b) (is_punctuation b)).1,
+    λ plain asterisk_is. rw (plain, asterisk_is) (open_tests (is_whitespace a) (is_punctuation a) (is_whitespace b) (is_punctuation b)).0,
+    λ plain underscore_is. rw (plain, underscore_is) (open_tests (is_whitespace a) (is_punctuation a) (is_whitespace b) (is_punctuation b)).1,
   )
 
   pub emphasis_closes : (before after : Option ℕ)
       → GoesBy asterisk can_close is_right_flanking (between before after) × GoesBy underscore can_close underscore_closes (between before after)
   unfolding can_close closes_between
-  emphasis_closes None after = (λ plain star. refl, λ plain line. refl)
-  emphasis_closes (Some b) None = (λ plain star. grind (arith, nat_tests), λ plain line. grind (arith, nat_tests))
+  emphasis_closes None after = (λ plain asterisk_is. refl, λ plain underscore_is. refl)
+  emphasis_closes (Some b) None = (λ plain asterisk_is. grind (arith, nat_tests), λ plain underscore_is. grind (arith, nat_tests))
   emphasis_closes (Some b) (Some a) = (
-    λ plain star. rw (plain, star) (close_tests (is_whitespace a) (is_punctuation a) (is_whitespace b) (is_punctuation b)).0,
-    λ plain line. rw (plain, line) (close_tests (is_whitespace a) (is_punctuation a) (is_whitespace b) (is_punctuation b)).1,
+    λ plain asterisk_is. rw (plain, asterisk_is) (close_tests (is_whitespace a) (is_punctuation a) (is_whitespace b) (is_punctuation b)).0,
+    λ plain underscore_is. rw (plain, underscore_is) (close_tests (is_whitespace a) (is_punctuation a) (is_whitespace b) (is_punctuation b)).1,
   )

@@ -115,7 +115,6 @@ blank_more n m bs e h = rw e (blank_by (λ k. m + k) (λ k. suc m + k) (eol_len 
 blank_after : (bs : List ℕ) → begins_plain bs ≡ true → blank_len (space ∷ bs) ≡ None
 blank_after bs h = blank_more (1 + prefix_len is_white bs) (prefix_len is_white bs) bs (omega arith) (plain_blank bs h)
 
--- A bullet and a space begin a list item.
 abbrev bullet_by : Bool → ℕ → Option (ℕ × ℕ × ℕ)
 bullet_by t b = if t then Some (1, b, 0) else None
 
@@ -125,6 +124,7 @@ after_bullet b bs = past_bytes 1 (line_rest (b ∷ space ∷ bs))
 has_space : (n : ℕ) → nat_le 1 (0 + (1 + n)) ≡ true
 has_space n = grind (arith, nat_tests)
 
+-- A bullet and a space begin a list item.
 bullet_item : (b : ℕ) (bs : List ℕ) → is_bullet b ≡ true
     → listitem (b ∷ space ∷ bs) ≡ Some (1, b, 0, (content_indent 2 (after_columns 1 (after_bullet b bs))).0)
 unfolding listitem list_marker after_marker

@@ -56,6 +56,7 @@ stops_later stops b bs n h =
     let one : 1 + n ≡ suc n = omega arith in
     (omega (arith, fits), λ less. ap (λ k. stops (get_or (b ∷ bs) k 0)) one ∙ h.1 (omega (arith, less)))
 
+-- a search for an unescaped byte stops at one that passes the test, or at the end
 pub upto_stops : (stops : ℕ → Bool) (n : ℕ) (bs : List ℕ) → StopsAt stops bs (unescaped_upto stops n bs)
 unfolding unescaped_upto
 upto_stops stops n [] = (omega arith, λ less. absurd (omega (arith, less)))

@@ -57,11 +57,12 @@ pub left-stop : (h : List ℕ → Option ℕ) (text : List ℕ) (at : ℕ)
     → at < length text → ends_line (get_or text at 0) (drop (at + 1) text) ≡ true → h (drop (at + 1) text) ≡ None → left_at h text at ≡ []
 left-stop h text at l e f = ap (joined h at 0) (drop_more text at 0 l) ∙ joined-stop h at (get_or text at 0) (drop (at + 1) text) e f
 
--- if 0 and the first byte of a text fail a test, the first joined byte fails it too
+-- a property of the joined bytes, by whether a prefix is there
 pub joined_by : (P : List (ℕ × ℕ) → Type 0) (f : ℕ → List (ℕ × ℕ)) (o : Option ℕ) → ((n : ℕ) → P (f n)) → P [] → P (option_map_or f o [])
 joined_by P f (Some n) some none = some n
 joined_by P f None some none = none
 
+-- if 0 and the first byte of a text fail a test, the first joined byte fails it too
 pub joined_fails : (p : ℕ → Bool) → p 0 ≡ false → (h : List ℕ → Option ℕ) (at : ℕ) (bs : List ℕ) → p (slice_index bs 0) ≡ false
     → p (slice_index (bytes_of (joined h at 0 bs)) 0) ≡ false
 unfolding joined

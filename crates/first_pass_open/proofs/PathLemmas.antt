@@ -70,7 +70,7 @@ pub empty_prefix : (o : Option Container) (r : Rest) → columns_needed o ≡ No
 empty_prefix (Some (BlockQuote kind)) r e q = cc
 empty_prefix o r e q = cc
 
--- what a call that takes a prefix returns, from a call that takes an equal prefix and returns an offset
+-- If one call returns the offset after a prefix, a call that takes an equal prefix returns whether there is one.
 pub by_quote : (o p : Option Rest) (b : Bool) (found : Option ℕ) (n : ℕ) (old new : Rest) → o ≡ p → b ≡ is_some found
     → MatchOption p ((found ≡ None) × (new ≡ old)) (λ next. (found ≡ Some n) × (new ≡ next))
     → MatchOption o ((b ≡ false) × (new ≡ old)) (λ next. (b ≡ true) × (new ≡ next))

@@ -150,7 +150,7 @@ top_like f (ix ∷ rest) = like_loosened f ix
 pub like_kept : (r : PassState) → LooksAlike r.tree (list_kept r).tree
 like_kept r = like_if r.blank r (loosened_top r.tree r.tree.spine) (top_like r.tree r.tree.spine)
 
--- a blank line
+-- a tree looks alike after its innermost item or definition gets the indent 0
 without_indent_like : (f : Forest Item) (s : List TreeIndex) (columns : ℕ) → (
     let top = option_and_then (λ (ix : TreeIndex). body_at f.nodes ix.0) (slice_get s 0) in
     (top ≡ Some (ListItemBody columns) → LooksAlike f (item_without_indent f s))

@@ -92,7 +92,7 @@ like_nested f g a h = subst (AreNested g.nodes) (sym a.spine) (nested_classed f.
 pub like_class : (f g : Forest Item) → LooksAlike f g → class_of (top_body g) ≡ class_of (top_body f)
 like_class f g a = ap (λ s. class_of (top_of g.nodes s)) a.spine ∙ top_classed f.nodes g.nodes f.spine (classed_alike f.nodes g.nodes a.nodes)
 
--- a definition list is a list, and neither an item nor a footnote definition
+-- a definition list is a list, no item, no footnote definition, and has no item on top
 pub definitions_are : (b : Option ItemBody) → is_definition_list b ≡ true
     → (is_list b ≡ true) × (is_item b ≡ false) × (is_footnote b ≡ false) × (item_on_top b ≡ false)
 definitions_are None h = cc

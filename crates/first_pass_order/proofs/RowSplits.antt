@@ -28,7 +28,7 @@ no_lead : (text : List ℕ) (w : Within) (from : ℕ) (x : Ranged) → x.marker 
 no_lead text (InText before) from x plain h = (let z : true ≡ false = sym h.0 ∙ plain in cc)
 no_lead text w from x plain h = h
 
--- A node ends at a character boundary, before an offset. If it ends later, something holds up to that end.
+-- A node ends between characters, not after an offset. A property holds of it with each later end between characters.
 abbrev MayEndLater : List ℕ → ℕ → Ranged → (ℕ → Ranged → Type 0) → Type 0
 MayEndLater text to x P = (x.«end» ≤ to) × IsCharBoundary text x.«end» × ((e : ℕ) → x.«end» ≤ e → IsCharBoundary text e → P e (ended_at x e))
 

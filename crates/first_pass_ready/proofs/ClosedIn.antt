@@ -129,7 +129,7 @@ pub closed_same : (f g : Forest Item) → is_definition_list (top_body f) ≡ fa
     → closed_in g ≡ closed_in f
 closed_same f g old new current h = grind (arith, closed_elsewhere_in, placed_same)
 
--- the last child is another than a paragraph if its body is none
+-- a last child whose body is no paragraph is another block
 pub no_paragraph : (i : ℕ) (b : ItemBody) → is_paragraph_body b ≡ false → closed_elsewhere i b ≡ OtherClosed
 no_paragraph i ParagraphBody h = cc
 no_paragraph i b h = refl

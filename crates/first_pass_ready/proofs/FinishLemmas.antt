@@ -85,6 +85,7 @@ before_current : (f : Forest Item) (o c : TreeIndex) (depth : ℕ) → IsForest 
 before_current f o c depth forest l less current =
     last-order (depths f.nodes) depth (length f.spine + 1) o.0 c.0 l (current_is_last f c forest current) less
 
+-- the open node around the innermost one is before the last child of that
 open_before : (f : Forest Item) (ix jx : TreeIndex) (s : List TreeIndex) → IsForest f → f.spine ≡ ix ∷ jx ∷ s → IsBefore jx.0 (closed_in f)
 open_before f ix jx s forest spine =
     let opened : IsOpenPath (depths f.nodes) (ix ∷ jx ∷ s) = subst (IsOpenPath (depths f.nodes)) spine forest.opened in
@@ -206,7 +207,7 @@ loose_frame options f ix b flags frame is listed framed =
     ap (option_and_then (frame_of options)) now
     ∙ loose_frame_by options b flags frame listed (subst (λ z. HasFrame options z frame) is (has_frame options (body_at f.nodes ix.0) frame framed))
 
--- a list that becomes loose or tight is no paragraph
+-- a list that becomes loose is no paragraph
 flagged_no_paragraph : (b : ItemBody) (flags : ListFlags) → list_flags_of b ≡ Some flags → is_paragraph_body (flagged true b) ≡ false
 flagged_no_paragraph b flags h = grind (arith, h)
 

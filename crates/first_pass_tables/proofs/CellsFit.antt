@@ -29,11 +29,11 @@ pub few-none : {text : List ℕ} {from to : ℕ} (most : ℕ) → from ≤ to �
 unfolding laid Fits
 few-none most h = (let none = own_at_most None [] in record { row = Empty; laid_is = refl; fits = h; node_bound = omega arith })
 
--- the order of the two offsets
+-- the first offset is not after the second
 pub few-order : {text : List ℕ} {from to most : ℕ} {items : List (ℕ × Item)} → FewBetween text from to most items → from ≤ to
 few-order {text} {from} {to} f = fits-order text Elsewhere from to f.row f.fits
 
--- nodes after others; nodes in more room
+-- nodes after others
 pub few-join : {text : List ℕ} {from mid to few more most : ℕ} {xs ys : List (ℕ × Item)} → FewBetween text from mid few xs → FewBetween text mid to more ys
     → few + more ≤ most → FewBetween text from to most (xs ++ ys)
 few-join {text} {from} {mid} {to} {xs = xs} {ys = ys} f g bound =
@@ -48,6 +48,7 @@ few-join {text} {from} {mid} {to} {xs = xs} {ys = ys} f g bound =
       node_bound = omega arith;
     }
 
+-- nodes in more room
 pub few-wider : {text : List ℕ} {low from to high most : ℕ} {items : List (ℕ × Item)} → FewBetween text from to most items → low ≤ from → to ≤ high
     → FewBetween text low high most items
 unfolding Fits

@@ -25,6 +25,7 @@ pub record CellPlace (text : List ℕ) (at : ℕ) : Type 0 where
   pub text_is : found.content ≡ cell_text text at
   pub eol_is : found.eol ≡ eol_len (drop found.content text)
 
+-- a cell that was found is at this place
 abbrev pub place_found : {text bytes : List ℕ} {at : ℕ} (found : CellStart) → bytes ≡ text → found.at ≡ cell_start bytes at
     → found.content ≡ cell_text bytes at → found.eol ≡ eol_len (drop found.content bytes) → CellPlace text at
 place_found {text} {bytes} {at} found same begins content ends = record {

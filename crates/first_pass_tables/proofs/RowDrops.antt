@@ -118,10 +118,11 @@ module _ {d : Document} {at stop : Spot} {count : ℕ} {tree over : Forest Item}
         spine = all.spine;
       }
 
-  -- no cell is appended, or some are
+  -- if no cell is appended, the tree is the same
   pub none_more : count ≡ 0 → HaveSame over tree
   none_more empty = (none_by all.cells (sym all.count_is ∙ empty) all.nodes, all.spine)
 
+  -- if some are, it has more nodes
   pub has_more : 0 < count → HasMore tree over
   has_more some = (let count_is = all.count_is in more_by all.cells (omega arith) all.are_cells all.nodes)
 

@@ -30,8 +30,8 @@ module _ (source : Source) {t f : Forest Item} (g : Forest Item) (x : Item) (ix 
   inside : AreIn (length g.nodes) f.spine
   inside = subst (λ (z : Forest Item). AreIn (length g.nodes) z.spine) (sym f_is) there
 
-  same : (spine : List TreeIndex) → AreIn (length g.nodes) spine → path_in source.options t.nodes spine ≡ path_in source.options f.nodes spine
-  same spine a =
+  path_kept : (spine : List TreeIndex) → AreIn (length g.nodes) spine → path_in source.options t.nodes spine ≡ path_in source.options f.nodes spine
+  path_kept spine a =
       let p : Forest Item = pushed (appended g x) ix in
       let node = (length g.spine + 1, x) ∷ [] in
       let n : length (g.nodes ++ node) ≡ length g.nodes + 1 = length-append g.nodes node in
@@ -47,7 +47,7 @@ module _ (source : Source) {t f : Forest Item} (g : Forest Item) (x : Item) (ix 
   same_path m h =
       ap (λ s. path_in source.options t.nodes (outer m s)) opened
       ∙ ap (path_in source.options t.nodes) (outer-inside ix f.spine m h)
-      ∙ same (outer m f.spine) (AreIn-drop (length g.nodes) (length f.spine - m) f.spine inside)
+      ∙ path_kept (outer m f.spine) (AreIn-drop (length g.nodes) (length f.spine - m) f.spine inside)
 
   whole_path : (m : ℕ) → m ≡ suc (length f.spine)
       → path_in source.options t.nodes (outer m t.spine) ≡ path_in source.options f.nodes (outer (length f.spine) f.spine)
@@ -55,7 +55,7 @@ module _ (source : Source) {t f : Forest Item} (g : Forest Item) (x : Item) (ix 
       ap (λ k. path_in source.options t.nodes (outer k t.spine)) (all ∙ sym (ap length opened))
       ∙ ap (path_in source.options t.nodes) (outer-all t.spine ∙ opened)
       ∙ ap (λ o. with_container o (path_in source.options t.nodes f.spine)) leaf
-      ∙ same f.spine inside
+      ∙ path_kept f.spine inside
       ∙ ap (path_in source.options f.nodes) (sym (outer-all f.spine))
 
   abbrev limited : ℕ → ℕ

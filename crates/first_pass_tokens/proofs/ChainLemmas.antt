@@ -25,8 +25,8 @@ add_text-some from to escaped chain some = cond-true _ _ _ (lt-ltb from to some)
 pub leaves_text : (from to : ℕ) → leaves (add_text from to false []) ≡ text_between from to
 leaves_text from to = elim (cases_Bool (nat_lt from to)) [ inl some ↦ rw some refl | inr none ↦ rw none refl ]
 
--- A relation holds between each chain and the chain with one more token if it holds for the empty chain and for a text that is joined, and
--- if a token at the front of both keeps it.
+-- A relation holds between each chain and the chain with one more token if it holds for the empty chain and for a
+-- text that is joined, and if a token at the front of both keeps it.
 pub add_token-by : (R : List Item → List Item → Type 0) (y : Item) → R [] (y ∷ [])
     → ((x : Item) → touches x y ≡ true → is_text x.body ≡ true → is_text y.body ≡ true → x.«end» ≡ y.start → R (x ∷ []) (record x { «end» = y.«end» } ∷ []))
     → ((x : Item) (xs ys : List Item) → R xs ys → R (x ∷ xs) (x ∷ ys)) → (chain : List Item) → R chain (add_token chain y)

@@ -173,7 +173,7 @@ module _ (b : ItemBody) (g : Forest Item) (start : ℕ) where
 abbrev pub empty_item_read : PassState → Option Item → ℕ → PassState
 empty_item_read r marker e = record r { tree = with_child r.tree marker; begin_list_item = Some e }
 
--- if the next line is blank too, the item takes only blank lines
+-- if the next line is blank too, the item or definition takes only blank lines
 abbrev columns_by : Bool → ℕ → ℕ
 columns_by t n = if t then 0 else n
 
@@ -185,6 +185,7 @@ module _ (d : Document) (defined : Tables) (b : ItemBody) (g : Forest Item) (sta
   abbrev full : Forest Item
   full = with_columns b g start columns
 
+  -- the item or definition is opened; if true, it takes only blank lines and has no columns
   abbrev IsOpenFor : Bool → Type 0
   IsOpenFor t =
       IsBegun d defined (with_columns b g start (columns_by t columns)) (item_container b (columns_by t columns)) (only_task marker p (blanks_by t e)) lines
@@ -242,8 +243,8 @@ definition_opens d path p lines columns rest e t over n = grind (arith, n, over.
 
 -- A container is opened at the place of a state.
 module _ (d : Document) (defined : Tables) (r : PassState) (p : Place) (lines : List Place) where
-  abbrev OpensIt : Opening → Type 0
-  OpensIt opening = Opens d (level_of d.options r.tree r.blank) p lines opening
+  abbrev OpensHere : Opening → Type 0
+  OpensHere opening = Opens d (level_of d.options r.tree r.blank) p lines opening
 
   -- the opening there, over the frames
   finished_opens : (new : PassState) (opening : Opening) (done : Finished d defined r new p lines opening)
@@ -257,7 +258,7 @@ module _ (d : Document) (defined : Tables) (r : PassState) (p : Place) (lines : 
 
   -- a block quote of a kind is open, for any place where blocks continue in it
   quote_is_open : (kind : Option BlockQuoteKind) (inside : Continues) (following : List Place) → MayBegin d defined r p lines
-      → OpensIt (OpensNode (quote_head p kind) inside following)
+      → OpensHere (OpensNode (quote_head p kind) inside following)
       → HasBegun d defined r (begun (quote_start p) (BlockQuoteBody kind) (list_finished p.line r)) (BlockQuote kind) inside following
   quote_is_open kind inside following may opens =
       let opening : Opening = OpensNode (quote_head p kind) inside following in
@@ -280,7 +281,7 @@ module _ (d : Document) (defined : Tables) (r : PassState) (p : Place) (lines : 
       }
 
   -- the start of a container opens it
-  begins_open : (s : Start) → ContainerBegins d defined r p lines s → OpensIt (opening_of d (path_of d.options r.tree) p lines s)
+  begins_open : (s : Start) → ContainerBegins d defined r p lines s → OpensHere (opening_of d (path_of d.options r.tree) p lines s)
   begins_open s b = opens_start d (level_of d.options r.tree r.blank) p lines s b.bare b.begins
 
   -- a block quote without a tag
@@ -305,7 +306,7 @@ module _ (d : Document) (defined : Tables) (r : PassState) (p : Place) (lines : 
       }
 
   module _ (byte number columns : ℕ) (inside : Continues) (may : MayBegin d defined r p lines)
-      (opens : OpensIt (OpensNode (item_head p byte number columns) inside lines)) where
+      (opens : OpensHere (OpensNode (item_head p byte number columns) inside lines)) where
     abbrev ItemIsOpen : PassState → Type 0
     ItemIsOpen q = HasBegun d defined r q (ListItem columns) inside lines
 
@@ -453,7 +454,7 @@ module _ (d : Document) (defined : Tables) (r : PassState) (p : Place) (lines : 
       let from : Continues = past_task marker (at_rest p rest) in
       let is : opening_of d (path_of d.options r.tree) p lines (item_start p (byte, number, columns) (marker, rest))
       ≡ OpensNode (item_head p byte number columns) from lines = grind (arith, some) in
-      let now = item_is_open byte number columns from b.may (subst OpensIt is (begins_open (item_start p (byte, number, columns) (marker, rest)) b)) in
+      let now = item_is_open byte number columns from b.may (subst OpensHere is (begins_open (item_start p (byte, number, columns) (marker, rest)) b)) in
       let q : PassState = item_opened (offset p) byte number columns r in (
         now.blank,
         now.is_begun.ready,
@@ -479,7 +480,7 @@ module _ (d : Document) (defined : Tables) (r : PassState) (p : Place) (lines : 
       let path : List Container = path_of d.options r.tree in
       let t : Bool = next_is_blank (ListItem m.indent ∷ path) lines in
       let from : Continues = only_task marker (at_rest p rest) (blanks_by t e) in
-      let now = item_is_open m.byte m.number (columns_by t m.indent) from b.may (subst OpensIt (item_opens d path p lines m marker rest e t over refl)
+      let now = item_is_open m.byte m.number (columns_by t m.indent) from b.may (subst OpensHere (item_opens d path p lines m marker rest e t over refl)
       (begins_open (item_start p (m.byte, m.number, m.indent) (marker, rest)) b)) in
       empty_is d defined (ListItemBody m.indent) (list_continued (offset p) m.byte m.number r).tree (offset p) m.indent marker (at_rest p rest) lines e path
       other t _ now.blank refl now.is_begun
@@ -494,6 +495,6 @@ module _ (d : Document) (defined : Tables) (r : PassState) (p : Place) (lines : 
       let t : Bool = next_is_blank (Definition columns ∷ path) lines in
       let from : Continues = only_task None (at_rest p rest) (blanks_by t e) in
       let now = definition_is_open d defined r p lines lines (columns_by t columns) from b.may takes
-      (subst OpensIt (definition_opens d path p lines columns rest e t over refl) (begins_open (definition_start p (columns, rest)) b)) in
+      (subst OpensHere (definition_opens d path p lines columns rest e t over refl) (begins_open (definition_start p (columns, rest)) b)) in
       empty_is d defined (DefinitionListDefinition columns) (list_kept (with_tree r (definitions_opened r.tree r.tree.current))).tree (offset p) columns None
       (at_rest p rest) lines e path (λ x some. cc) t _ now.blank refl now.is_begun

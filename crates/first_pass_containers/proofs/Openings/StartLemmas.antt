@@ -58,7 +58,7 @@ container_count text line mid e q first new None grows order stands before = (le
 container_count text line mid e q first new (Some x) grows order stands before =
     record { from = mid; grows = grows; order = order; stands = stands; before = before x refl }
 
--- the marker of a task leaves the state as it is
+-- a task list item marker leaves the state as it is
 task_read : (marker : Option Item) (e : ℕ) (r : PassState) → after_read (after_task marker) e r ≡ r
 task_read None e r = refl
 task_read (Some x) e r = refl
@@ -94,6 +94,7 @@ module _ (source : Source) (r : PassState) (p : Place) (utf8 : IsUtf8 source.tex
   abbrev doc : Names → Document
   doc names = document source.text.now source.options names
 
+  -- the container that this start begins is opened
   abbrev Opened : Start → Type 0
   Opened s = IsOpened source line r p s (start_opened p.line (start_told s) (line_end p) r)
 

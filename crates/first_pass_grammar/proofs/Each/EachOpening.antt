@@ -46,7 +46,7 @@ HoldsOfEachHead Q Nil = Unit {0}
 HoldsOfEachHead Q (Then leaf next) = HoldsOfEachHead Q next
 HoldsOfEachHead Q (Node head e kids next) = Q head × HoldsOfEachHead Q kids × HoldsOfEachHead Q next
 
--- no property of a head
+-- holds of any head
 abbrev pub AnyHead : Head → Type 0
 AnyHead head = Unit {0}
 

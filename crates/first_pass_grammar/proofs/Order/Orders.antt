@@ -118,19 +118,21 @@ is_wider (InText b) (InText a) = nat_le a b
 is_wider (InFirst b) (InFirst a) = nat_le a b
 is_wider _ _ = false
 
--- so it is below a node, after it, and for a task list item marker there
+-- a wider place stays wider below a node
 wider_below : (w v : Within) (a b : ℕ) (x : Ranged) → a ≤ b → is_wider w v ≡ true → is_wider (below w b x) (below v a x) ≡ true
 wider_below w v a b x more h = grind (arith, nat_tests)
 
+-- and after it
 wider_beyond : (w v : Within) → is_wider w v ≡ true → is_wider (beyond w) (beyond v) ≡ true
 wider_beyond w v h = grind (arith, nat_tests)
 
+-- a task list item marker that may be first in a place may be first in a wider one
 wider_lead : (text : List ℕ) (w v : Within) (from : ℕ) (x : Ranged) → is_wider w v ≡ true → IsLead text w from x → IsLead text v from x
 wider_lead text (InText b) (InText a) from x h lead = (lead.0, between-earlier text a b from x (leb-true a b h) lead.1)
 wider_lead text (InText b) v from x h lead = absurd (false≢true h)
 wider_lead text w v from x h lead = absurd lead
 
--- siblings fit in a wider place, and those that fit elsewhere fit anywhere
+-- siblings that fit in a place also fit in a wider one
 fits-wider : (text : List ℕ) (w v : Within) (from to : ℕ) (row : Siblings) → is_wider w v ≡ true → Fits text w from to row → Fits text v from to row
 unfolding Fits
 fits-wider text w v from to Empty wide h = h
@@ -142,6 +144,7 @@ fits-wider text w v from to (Node x kids next) wide (inl (b, k, n)) =
     )
 fits-wider text w v from to (Node x kids next) wide (inr (l, k, n)) = inr (wider_lead text w v from x wide l, k, n)
 
+-- siblings that fit elsewhere fit anywhere
 pub fits-any : (text : List ℕ) (w : Within) (from to : ℕ) (row : Siblings) → Fits text Elsewhere from to row → Fits text w from to row
 fits-any text w from to row h = fits-wider text Elsewhere w from to row refl h
 

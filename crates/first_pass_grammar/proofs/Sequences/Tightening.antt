@@ -98,7 +98,7 @@ are_blocks quoted before last (Then (Block b) next) = blocks_leaf b (gap_before 
 are_blocks quoted before last (Node head e kids next) =
     blocks_container last head.opener head.line head.start e before.counted _ _ (are_blocks quoted _ last next)
 
--- no block quote and no list is a paragraph
+-- tightening the items of a row that is no list item, title or definition gives those of a tight list
 tight_row : (d : ℕ) (loose : Bool) (start : ℕ) (w : What) → NoItem w → map (tightened d) (row_items d false loose start w) ≡ row_items d true loose start w
 tight_row d loose start (ALeaf b) h = refl
 tight_row d loose start (ATitle b) h = absurd h

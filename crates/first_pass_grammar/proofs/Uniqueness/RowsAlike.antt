@@ -18,7 +18,7 @@ use Rattle.first_pass_grammar.specs.Rows.{AQuote, AList, AnItem, Untitled, WithT
 use Rattle.first_pass_grammar.proofs.Uniqueness.Alike.{AlikeNodes, AlikeLeaf, AlikeHead, stands, only_head, only_opener, label_node, opened_alike, chosen}
 use Rattle.first_pass_grammar.proofs.Uniqueness.Alike.{label_alike, kind_tests, Alike, nodes_append, tight_read, read_tight, read_at_depth}
 
--- a leaf block without its items, with what stands of it
+-- a leaf block with this kind, line, start and gap, without items and definitions
 abbrev bare_block : Kind × ℕ × ℕ → Bool → LeafBlock
 bare_block z gap = record { kind = z.0; line = z.1; start = z.2; items = []; gap = gap; definitions = [] }
 
@@ -29,7 +29,7 @@ bare_what (AFootnote index e) = AFootnote (record { 0 = 0 }) e
 bare_what (ATitle b) = ATitle (bare_block (stands b) b.gap)
 bare_what w = w
 
--- only these items, or a node with this index
+-- the items of a row's leaf block, or a node with the index of its label
 abbrev inside : What → List (ℕ × Item)
 inside (ALeaf b) = b.items
 inside (ATitle b) = b.items

@@ -60,10 +60,11 @@ unfolding cells_of
 cells_white b [] = omega arith
 cells_white b (c ∷ cs) = cells_white_by (is_white c) b c cs refl (cells_white c cs)
 
--- there are none if the line ends
+-- a byte that begins a line ending is no content
 no_content : (c : ℕ) (cs : List ℕ) (n : ℕ) → eol_len (c ∷ cs) ≡ Some n → is_content c ≡ false
 no_content c cs n e = grind (arith, nat_tests, e)
 
+-- there are no cells if the line ends
 cells_end : (b : ℕ) (bs : List ℕ) (n : ℕ) → eol_len bs ≡ Some n → cells_of b bs ≡ 0
 unfolding cells_of
 cells_end b [] n e = refl
