@@ -3,12 +3,13 @@ use Rattle.std.proofs.Common.{◌≡◌, ℕ, ◌+◌, ◌<◌, ◌≤◌, Bool,
 use Rattle.std.proofs.Common.{arith, ◌*◌}
 use Rattle.first_pass_grammar.proofs.Common.{Item, line_len, Place, offset, line_end, line_end_boundary, document, AreNamed, Names, Extends, GrowsBy}
 use Rattle.first_pass_grammar.proofs.Common.{IsForest, Options, counted_nodes, lines_from, IsPlaceOf}
-use Rattle.first_pass_blocks.proofs.Common.{tables_of, names_of, Allocations, extends_equal, extends_both, extends_none, TablesAreWritten, Source, PassState}
+use Rattle.first_pass_blocks.proofs.Common.{tables_in, tables_of, names_of, Allocations, extends_equal, extends_both, extends_none, TablesAreWritten, Source, PassState}
 use Rattle.first_pass_blocks.proofs.Common.{AfterMarker, OnLine, TaskText, LineEnds, OnlyTag, Position, LineAt, InLine, LeafAt, IsNotBefore, ReadsTo}
 use Rattle.first_pass_blocks.proofs.Common.{StaysSame, ReadsLeaf, last_at, IsStateAtPlace, place_before_end, only_leaf, reads_none, allocs_of, front_of}
 use Rattle.first_pass_blocks.proofs.Common.{state_of, source_of, source_text, tree_of, source_options, IsReadFrom, Ready}
 use Rattle.first_pass_containers.specs.Entering.{EntersLine}
-use Rattle.first_pass_blocks.specs.Progress.{ReadsBlock, IsAtPlace, KeepsPass, PassesTo, ReadsBlockOf, ReadsEntered}
+use Rattle.first_pass_names.specs.TableEntries.{Entries}
+use Rattle.first_pass_blocks.specs.Progress.{HasSameParts, ReadsBlock, IsAtPlace, KeepsPass, PassesTo, ReadsBlockOf, ReadsEntered}
 use Rattle.first_pass_containers.specs.Starts.{BeginsNoContainer}
 use Rattle.first_pass_blocks.specs.declared.state.BlockPass.{BlockPass}
 use Rattle.first_pass_containers.specs.Positions.{GrowsTo, GrowsFrom}
@@ -229,6 +230,20 @@ pub block_more : {text : List ℕ} {options : Options} {old new : BlockPass} {fa
     → ReadsBlock old new far (LineAt ix) next → ix ≤ next → IsReadUpTo text options new next
 block_more {old = old} {new = new} {far = far} {ix = ix} {next = next} i e later =
     rw (← i.same_text, ← i.same_options) (read_on old new far ix next (rw (← i.same_text, ← i.same_options) at i) e later)
+
+-- room is made
+pub room_made : {text : List ℕ} {options : Options} {old new : BlockPass} {ix : ℕ} → IsReadUpTo text options old ix → HasSameParts old new
+    → IsReadUpTo text options new ix
+room_made i same = record {
+  same_text = ap (λ (z : Source). z.text.now) same.source ∙ i.same_text;
+  same_options = ap (λ (z : Source). z.options) same.source ∙ i.same_options;
+  boundary = i.boundary;
+  ready = λ names more. rw (same.state, ap tables_in same.entries) (i.ready names (rw (← same.names) more));
+  order = rw same.state i.order;
+  named = rw (same.names, same.state) i.named;
+  written = rw (ap (λ (e : Entries). e.links) same.entries, ap (λ (e : Entries). e.footnotes) same.entries) i.written;
+  node_bound = rw same.state i.node_bound;
+}
 
 -- lines are read that change nothing of the state
 pub lines_more : {text : List ℕ} {options : Options} {pass : BlockPass} {ix next : ℕ} → IsReadUpTo text options pass ix → ix ≤ next

@@ -9,7 +9,7 @@ use Rattle.first_pass_grammar.specs.Leaves.{document}
 use Rattle.first_pass_grammar.specs.Completion.{lines_from}
 use Rattle.first_pass_grammar.specs.WholeTables.{HasWholeTables}
 use Rattle.first_pass_names.specs.declared.items.Allocations.{Allocations}
-use Rattle.first_pass_names.specs.TableEntries.{tables_of, names_of}
+use Rattle.first_pass_names.specs.TableEntries.{entries, tables_of, names_of}
 use Rattle.first_pass_blocks.specs.Written.{TablesAreWritten}
 use Rattle.first_pass_open.specs.declared.source.Source.{Source}
 use Rattle.first_pass_blocks.specs.declared.state.BlockPass.{BlockPass}
@@ -91,6 +91,14 @@ ReadsEntered old new p next = (first : BlockPass) (start : ℕ) → start < leng
 -- block quote (CommonMark 4, and this project)
 abbrev pub ReadsLeaf : BlockPass → BlockPass → Place → ℕ → Type 0
 ReadsLeaf old new p next = ReadsBlock old new (line_end p) (LeafAt p) next
+
+-- Two passes have the same text, options, state, names, definition tables and known front (this project).
+pub record HasSameParts (old new : BlockPass) : Type 0 where
+  pub source : source_of new ≡ source_of old
+  pub state : state_of new ≡ state_of old
+  pub names : names_of (allocs_of new) ≡ names_of (allocs_of old)
+  pub entries : entries (allocs_of new) ≡ entries (allocs_of old)
+  pub front : front_of new ≡ front_of old
 
 -- if a pass knows a front, it is that of the line at an offset (this project)
 abbrev pub KnowsNext : BlockPass → ℕ → Type 0

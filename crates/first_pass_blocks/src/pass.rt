@@ -1,6 +1,6 @@
 //! The block pass: the lines of a text, one block after the other.
 
-ghost use Rattle.std.specs.Prelude.{◌≡◌, ◌<◌, ◌≤◌, ◌+◌, ◌*◌, [], length, None, true, false, IfOk, IsUtf8, IsCharBoundary};
+ghost use Rattle.std.specs.Prelude.{◌≡◌, ◌<◌, ◌≤◌, ◌+◌, ◌*◌, [], length, None, true, false, IfOk, OnOk, IsUtf8, IsCharBoundary};
 ghost use Rattle.first_pass_lines.specs.Places.{offset, line_end, IsPlaceOf};
 ghost use Rattle.first_pass_grammar.specs.Leaves.{document};
 ghost use Rattle.first_pass_grammar.specs.Derivation.{no_tables, Derives, IsOnlyDerived};
@@ -17,7 +17,7 @@ ghost use Rattle.first_pass_grammar.specs.declared.kind.AfterMarker.TheVariants.
 ghost use Rattle.first_pass_ready.specs.State.{Ready};
 ghost use Rattle.first_pass_order.specs.Ordered.{IsReadTo};
 ghost use Rattle.first_pass_containers.specs.Positions.{LineAt, TaskAt, TaggedAt};
-ghost use Rattle.first_pass_blocks.specs.Progress.{IsAtPlace, KnowsNext, ReadsBlock, ReadsEntered, ReadsLeaf};
+ghost use Rattle.first_pass_blocks.specs.Progress.{HasSameParts, IsAtPlace, KnowsNext, ReadsBlock, ReadsEntered, ReadsLeaf};
 ghost use Rattle.first_pass_order.specs.Settled.{AreSettled};
 ghost use Rattle.first_pass_containers.specs.Starts.{IsAfterMarker};
 ghost use Rattle.first_pass_blocks.specs.Titles.{ReadsTextOrTitle};
@@ -36,6 +36,7 @@ use first_pass_kinds::interrupt::scan_flowing_line;
 use first_pass_kinds::kinds::{BlockStart, kind_at};
 use first_pass_kinds::next_front::NextFront;
 use first_pass_lines::places::{next_line, rest_of};
+use first_pass_lines::sample::Sample;
 use first_pass_lists::state::PassState;
 use first_pass_metadata::metadata_search::MetadataEnds;
 use first_pass_names::items::Allocations;
@@ -46,6 +47,13 @@ use first_pass_raw::html_block::{HtmlStart, parse_html_block_type_6_or_7};
 use first_pass_tree::forest::Tree;
 use std::alloc::{AllocError, Global};
 use std::cmp::max;
+
+// The bytes at the start of a text by which the rest is judged.
+const SAMPLE_BYTES: usize = 1 << 16;
+// A text seldom has more than one node in this many bytes.
+const BYTES_A_NODE: usize = 5;
+// The most nodes for which room is made at once, 132 MB: the rest of a text may be unlike its start.
+const MOST_NODES_EXPECTED: usize = 2_750_000;
 
 impl<'a> BlockPass<'a> {
     /// A pass over `text` that has read nothing yet.
@@ -62,8 +70,8 @@ impl<'a> BlockPass<'a> {
         ensures front { IfOk result (λ pass. (front_of pass).is_known ≡ false) }
     {
         // An estimate of the number of nodes: pages of memory that are never reached cost nothing. It stays under 32
-        // MiB, since the C library maps a larger block anew in each pass.
-        let capacity = max(128, (text.len() / 5).min(690_000));
+        // MiB, since the C library maps a larger block anew in each pass. `reserve_for_rest` makes room for more.
+        let capacity = max(128, (text.len() / BYTES_A_NODE).min(690_000));
         let mut tree = Tree::with_capacity(alloc, capacity)?;
         let root = tree.root();
         tree.set_end(root, text.len());
@@ -114,6 +122,39 @@ impl<'a> BlockPass<'a> {
         }
         let next = self.parse_containers_apart(place)?;
         Ok(next)
+    }
+
+    // Makes room for the rest of the text once it has been read up to `sample_end`; `read` is the offset up to which it
+    // has been read. Returns the offset at which to do so next: `sample_end` again, or, if room was made, one that no
+    // text reaches.
+    #[inline(always)]
+    fn reserve_once(&mut self, read: usize, sample_end: usize) -> Result<usize, AllocError>
+        ensures { OnOk result (HasSameParts self.old self.new) }
+    {
+        if read < sample_end {
+            return Ok(sample_end);
+        }
+        self.reserve_for_rest(read)?;
+        Ok(usize::MAX)
+    }
+
+    // Makes room for the nodes, link definitions and heading attributes of the rest of the text, if it is like the part
+    // before the offset `read`.
+    #[inline(never)]
+    fn reserve_for_rest(&mut self, read: usize) -> Result<(), AllocError>
+        ensures { OnOk result (HasSameParts self.old self.new) }
+    {
+        let whole = self.source.text.len();
+        let rest = whole.saturating_sub(read);
+        let sample = Sample { read, rest };
+        let count = self.state.tree.node_count();
+        let most = MOST_NODES_EXPECTED.min(whole / BYTES_A_NODE);
+        let expected = sample.expected_more(count);
+        self.state
+            .tree
+            .reserve(expected.min(most.saturating_sub(count)))?;
+        self.allocs.reserve_for(sample)?;
+        Ok(())
     }
 
     // Reads the block in the line at `start_ix`, whose front is known. Returns the same as `parse_block`.
@@ -326,12 +367,14 @@ pub fn run_first_pass<'a>(
 {
     let mut pass = BlockPass::new(alloc, text, options)?;
     let mut ix = 0;
+    let mut sample_end = SAMPLE_BYTES;
     while ix < text.len() {
         ix = pass.parse_block(ix)?;
-        while pass.next_front.is_known && ix < text.len() {
+        while pass.next_front.is_known && ix < sample_end && ix < text.len() {
             ix = pass.parse_known(ix)?;
         }
         ix = read_blank_lines(&pass.state, &pass.source, ix);
+        sample_end = pass.reserve_once(ix, sample_end)?;
     }
     close_containers(&mut pass.state, 0, text.len());
     let BlockPass {

@@ -12,6 +12,7 @@ use crate::in_order::order_of;
 use crate::label_key::LabelKey;
 use crate::search::{find_first, find_sorted};
 use first_pass_items::cow_str::{CowStr, InlineStr};
+use first_pass_lines::sample::Sample;
 use std::alloc::{AllocError, Global};
 use std::boxed::BoxedStr;
 use std::marker::Model;
@@ -168,6 +169,17 @@ impl<'a, T> LabelTable<'a, T> {
         self.entries.push((label, definition))?;
         self.order.clear();
         Ok(())
+    }
+
+    /// Makes room for the definitions that are expected in the rest of a text. Asks for room for at most `most` in all.
+    /// The table stays the same. Fails only if an allocation fails.
+    pub fn reserve_for(&mut self, sample: Sample, most: usize) -> Result<(), AllocError>
+        ensures { self.new ≡ self.old }
+    {
+        let count = self.entries.len();
+        let expected = sample.expected_more(count);
+        self.entries
+            .reserve(expected.min(most.saturating_sub(count)))
     }
 
     /// Sorts the table, so that `get` and `iter` take few steps until the next definition is added. Its labels and

@@ -3,3 +3,4 @@ pub mod Rest
 pub mod Places
 pub mod Plain
 pub mod Lanes
+pub mod Samples

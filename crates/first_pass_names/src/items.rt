@@ -15,10 +15,15 @@ use first_pass_items::item::{Alignment, AlignmentIndex, CowIndex, HeadingIndex};
 pub use first_pass_labels::label_key::LabelKey;
 use first_pass_labels::label_table::LabelTable;
 pub use first_pass_labels::label_table::{FootDefs, FootnoteDef, InOrder, LinkDef, RefDefs};
+pub use first_pass_lines::sample::Sample;
 use first_pass_links::label::scan_link_label_rest;
 use std::alloc::{AllocError, Global};
 use std::boxed::BoxedStr;
 use std::ops::{DerefStr, Index};
+
+// The most link definitions, and the most heading attributes, for which room is made at once: the rest of a text may be
+// unlike its start.
+const MOST_EXPECTED: usize = 300_000;
 
 /// Two tables of what the text defines (link definitions and footnote labels), and three lists. The lists have the
 /// strings, column alignments and heading attributes that nodes refer to by index.
@@ -70,6 +75,19 @@ impl<'a> Allocations<'a> {
         self.refdefs.sort()?;
         self.footdefs.sort()?;
         Ok(())
+    }
+
+    /// Makes room for the link definitions and the heading attributes that are expected in the rest of a text. Asks for
+    /// room for at most 300,000 of each in all. No entry changes. Fails only if an allocation fails.
+    pub fn reserve_for(&mut self, sample: Sample) -> Result<(), AllocError>
+        ensures entries { entries self.new ≡ entries self.old }
+        ensures names { names_of self.new ≡ names_of self.old }
+    {
+        self.refdefs.reserve_for(sample, MOST_EXPECTED)?;
+        let count = self.headings.len();
+        let expected = sample.expected_more(count);
+        self.headings
+            .reserve(expected.min(MOST_EXPECTED.saturating_sub(count)))
     }
 
     /// Appends a string to the list of strings, and returns its index there. Fails only if an allocation fails; then

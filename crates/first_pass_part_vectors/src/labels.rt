@@ -3,6 +3,7 @@
 use first_pass_items::cow_str::CowStr;
 use first_pass_labels::label_key::LabelKey;
 use first_pass_labels::label_table::{FootDefs, FootnoteDef, LinkDef, LinkPlaces, RefDefs};
+use first_pass_lines::sample::Sample;
 use first_pass_links::label::scan_link_label_rest;
 use std::alloc::{AllocError, Global};
 use std::ops::DerefStr;
@@ -108,6 +109,7 @@ fn sorting_changes_no_result(rt: HostRuntime) -> Result<(), Fail> {
     }
     assert!(rt; has_first_labels(rt.alloc(), &links)?);
     links.sort()?;
+    links.reserve_for(Sample { read: 1, rest: 9 }, 40)?;
     assert!(rt; has_first_labels(rt.alloc(), &links)?);
     links.insert_first(key(rt.alloc(), "B")?, link("7"))?;
     assert!(rt; has_first_labels(rt.alloc(), &links)?);

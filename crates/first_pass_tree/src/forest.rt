@@ -66,6 +66,13 @@ impl Tree<Item> {
         })
     }
 
+    /// Makes room for this many more nodes. The tree stays the same. Fails only if an allocation fails.
+    pub fn reserve(&mut self, additional: usize) -> Result<(), AllocError>
+        ensures { self.new ≡ self.old }
+    {
+        self.nodes.reserve(additional)
+    }
+
     /// Does nothing; its contract states the invariant of a tree. The depths are those of a tree in reading order, the
     /// open nodes are a path, and the current node is the last child of the innermost open node.
     pub fn recall_forest(&self)

@@ -50,6 +50,7 @@ fn begins_with_the_root(rt: HostRuntime) -> Result<(), Fail> {
     assert!(rt; tree.root() == TreeIndex(0) && tree.cur() == None && tree.spine_len() == 0);
     assert!(rt; tree.peek_up() == None && tree.pop() == None && tree.remove_node() == None);
     let block = tree.append(item(0, 9, ItemBody::Paragraph))?;
+    tree.reserve(9)?;
     assert!(rt; tree.cur() == Some(block) && tree.node_count() == 2);
     assert!(rt; tree.push()? == block && tree.cur() == None);
     Ok(())

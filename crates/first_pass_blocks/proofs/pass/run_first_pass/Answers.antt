@@ -1,7 +1,7 @@
 use Rattle.std.proofs.Common.{◌≡◌, ◌≤◌, inl, inr, ℕ, List, [], length, None, arith, refl, ap, ◌∙◌, subst}
 use Rattle.first_pass_grammar.proofs.Common.{IsCharBoundary-start, IsCharBoundary-end, lines_at-end, document, Options, Derives}
 use Rattle.first_pass_blocks.proofs.Common.{PassState, reached, IsReadTo, IsReadFrom, Ready, names_of, tables_in, tables_of, extends_equal}
-use Rattle.first_pass_blocks.proofs.BlockRead.{block_more, lines_more}
+use Rattle.first_pass_blocks.proofs.BlockRead.{block_more, lines_more, room_made}
 use Rattle.first_pass_blocks.proofs.LinkDefinitions.{none_written}
 use Rattle.first_pass_grammar.proofs.Count.CountedNodes.{own_at_most}
 use Rattle.first_pass_order.proofs.InsertedCells.{all_nodes}
@@ -42,7 +42,7 @@ loop-pass-preserved c =
 pub loop-ix-preserved : goal.loop-ix-preserved
 loop-ix-preserved c =
     let more = c.read_blank_lines-ix.ensures in
-    lines_more c.loop-pass.invariant.read more.later more.boundary more.read
+    room_made (lines_more c.loop-pass.invariant.read more.later more.boundary more.read) c.in_ok-sample_end.ensures
 
 -- At the end of the text no block has ended at a blank line.
 at_end : (options : Options) (text : List ℕ) (r : PassState) (at : ℕ) → length text ≤ at → IsReadFrom options text r at → IsReadTo text r at
