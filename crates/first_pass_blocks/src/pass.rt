@@ -1,6 +1,6 @@
 //! The block pass: the lines of a text, one block after the other.
 
-ghost use Rattle.std.specs.Prelude.{◌≡◌, ◌<◌, ◌≤◌, ◌+◌, ◌*◌, [], length, None, true, false, IfOk, OnOk, IsUtf8, IsCharBoundary};
+ghost use Rattle.std.specs.Prelude.{◌≡◌, ◌<◌, ◌≤◌, ◌+◌, ◌*◌, [], length, None, true, false, IfOk, IsUtf8, IsCharBoundary};
 ghost use Rattle.first_pass_lines.specs.Places.{offset, line_end, IsPlaceOf};
 ghost use Rattle.first_pass_grammar.specs.Leaves.{document};
 ghost use Rattle.first_pass_grammar.specs.Derivation.{no_tables, Derives, IsOnlyDerived};
@@ -17,7 +17,7 @@ ghost use Rattle.first_pass_grammar.specs.declared.kind.AfterMarker.TheVariants.
 ghost use Rattle.first_pass_ready.specs.State.{Ready};
 ghost use Rattle.first_pass_order.specs.Ordered.{IsReadTo};
 ghost use Rattle.first_pass_containers.specs.Positions.{LineAt, TaskAt, TaggedAt};
-ghost use Rattle.first_pass_blocks.specs.Progress.{HasSameParts, IsAtPlace, KnowsNext, ReadsBlock, ReadsEntered, ReadsLeaf};
+ghost use Rattle.first_pass_blocks.specs.Progress.{HasSameParts, IsAtPlace, KnowsNext, ReadsBlock, ReadsLeaf};
 ghost use Rattle.first_pass_order.specs.Settled.{AreSettled};
 ghost use Rattle.first_pass_containers.specs.Starts.{IsAfterMarker};
 ghost use Rattle.first_pass_blocks.specs.Titles.{ReadsTextOrTitle};
@@ -52,8 +52,13 @@ use std::cmp::max;
 const SAMPLE_BYTES: usize = 1 << 16;
 // A text seldom has more than one node in this many bytes.
 const BYTES_A_NODE: usize = 5;
-// The most nodes for which room is made at once, 132 MB: the rest of a text may be unlike its start.
-const MOST_NODES_EXPECTED: usize = 2_750_000;
+// The nodes of 48 bytes in a large page of memory, 2 MiB. The C library keeps its header in the 32 bytes that are left.
+const NODES_A_PAGE: usize = 43_690;
+// The most nodes for which room is made at first, 30 MiB: the C library maps a block of 32 MiB anew in each pass.
+const MOST_NODES_AT_FIRST: usize = 15 * NODES_A_PAGE;
+// The most nodes for which room is made before they come, 126 MB: the rest of a text may be unlike its start. A list at
+// least doubles when it grows, so this is a power of two times the room at first.
+const MOST_NODES_EXPECTED: usize = 4 * MOST_NODES_AT_FIRST;
 
 impl<'a> BlockPass<'a> {
     /// A pass over `text` that has read nothing yet.
@@ -69,10 +74,9 @@ impl<'a> BlockPass<'a> {
         ensures tables { IfOk result (λ pass. HasWholeTables (names_of (allocs_of pass)) (tree_of pass)) }
         ensures front { IfOk result (λ pass. (front_of pass).is_known ≡ false) }
     {
-        // An estimate of the number of nodes: pages of memory that are never reached cost nothing. It stays under 32
-        // MiB, since the C library maps a larger block anew in each pass. `reserve_for_rest` makes room for more.
-        let capacity = max(128, (text.len() / BYTES_A_NODE).min(690_000));
-        let mut tree = Tree::with_capacity(alloc, capacity)?;
+        // Pages of memory that are never reached cost nothing. `reserve_for_rest` makes room for more.
+        let expected = (text.len() / BYTES_A_NODE).min(MOST_NODES_AT_FIRST);
+        let mut tree = Tree::with_capacity(alloc, max(128, whole_pages(expected)))?;
         let root = tree.root();
         tree.set_end(root, text.len());
         Ok(BlockPass {
@@ -124,37 +128,40 @@ impl<'a> BlockPass<'a> {
         Ok(next)
     }
 
-    // Makes room for the rest of the text once it has been read up to `sample_end`; `read` is the offset up to which it
-    // has been read. Returns the offset at which to do so next: `sample_end` again, or, if room was made, one that no
-    // text reaches.
+    // Makes room for the rest of the text once it has been read up to the end of the sample. `read` is the offset up to
+    // which it has been read. `part_end` is the end of the sample, and after that the end of the text; returns the one up
+    // to which to read now.
     #[inline(always)]
-    fn reserve_once(&mut self, read: usize, sample_end: usize) -> Result<usize, AllocError>
-        ensures { OnOk result (HasSameParts self.old self.new) }
+    fn reserve_once(&mut self, read: usize, part_end: usize) -> usize
+        ensures same { HasSameParts self.old self.new }
+        ensures within { part_end ≤ length (source_text self.old) → result ≤ length (source_text self.old) }
+        ensures last { result ≤ read → length (source_text self.old) ≤ result }
     {
-        if read < sample_end {
-            return Ok(sample_end);
+        if read < part_end {
+            return part_end;
         }
-        self.reserve_for_rest(read)?;
-        Ok(usize::MAX)
+        let end = self.source.text.len();
+        if read < end {
+            self.reserve_for_rest(read);
+        }
+        end
     }
 
     // Makes room for the nodes, link definitions and heading attributes of the rest of the text, if it is like the part
-    // before the offset `read`.
+    // before the offset `read`. If such room is refused, the lists grow when they have to.
     #[inline(never)]
-    fn reserve_for_rest(&mut self, read: usize) -> Result<(), AllocError>
-        ensures { OnOk result (HasSameParts self.old self.new) }
+    fn reserve_for_rest(&mut self, read: usize)
+        ensures { HasSameParts self.old self.new }
     {
         let whole = self.source.text.len();
         let rest = whole.saturating_sub(read);
         let sample = Sample { read, rest };
         let count = self.state.tree.node_count();
         let most = MOST_NODES_EXPECTED.min(whole / BYTES_A_NODE);
-        let expected = sample.expected_more(count);
-        self.state
-            .tree
-            .reserve(expected.min(most.saturating_sub(count)))?;
-        self.allocs.reserve_for(sample)?;
-        Ok(())
+        let expected = count.saturating_add(sample.expected_more(count)).min(most);
+        let more = whole_pages(expected).saturating_sub(count);
+        let _ = self.state.tree.reserve(more);
+        let _ = self.allocs.reserve_for(sample);
     }
 
     // Reads the block in the line at `start_ix`, whose front is known. Returns the same as `parse_block`.
@@ -367,14 +374,14 @@ pub fn run_first_pass<'a>(
 {
     let mut pass = BlockPass::new(alloc, text, options)?;
     let mut ix = 0;
-    let mut sample_end = SAMPLE_BYTES;
-    while ix < text.len() {
+    let mut part_end = sample_end(text.len());
+    while ix < part_end {
         ix = pass.parse_block(ix)?;
-        while pass.next_front.is_known && ix < sample_end && ix < text.len() {
+        while pass.next_front.is_known && ix < part_end {
             ix = pass.parse_known(ix)?;
         }
         ix = read_blank_lines(&pass.state, &pass.source, ix);
-        sample_end = pass.reserve_once(ix, sample_end)?;
+        part_end = pass.reserve_once(ix, part_end);
     }
     close_containers(&mut pass.state, 0, text.len());
     let BlockPass {
@@ -387,4 +394,24 @@ pub fn run_first_pass<'a>(
     let PassState { tree, .. } = state;
     allocs.sort_tables()?;
     Ok((tree, allocs))
+}
+
+// Returns the end of the part at the start of a text of this many bytes by which the rest is judged.
+fn sample_end(bytes: usize) -> usize
+    ensures within { result ≤ bytes }
+    ensures last { result ≤ 0 → bytes ≤ result }
+{
+    bytes.min(SAMPLE_BYTES)
+}
+
+// Returns this many nodes, rounded up to whole large pages from two pages on. If large pages are on, Linux maps such a
+// block at the start of one, so none of it has small pages. For fewer nodes these are quicker: most stay untouched.
+fn whole_pages(nodes: usize) -> usize
+    ensures least { nodes ≤ result }
+    ensures most { result < nodes + 43690 }
+{
+    if nodes < 2 * NODES_A_PAGE {
+        return nodes;
+    }
+    nodes.div_ceil(NODES_A_PAGE).saturating_mul(NODES_A_PAGE)
 }

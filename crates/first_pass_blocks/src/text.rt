@@ -13,7 +13,7 @@ ghost use Rattle.first_pass_open.specs.Between.{AddsBetween, MarkerIsInItem, Mar
 ghost use Rattle.first_pass_lists.specs.Closing.{with_tree};
 ghost use Rattle.first_pass_containers.specs.TextsAdded.{AddsText};
 ghost use Rattle.first_pass_blocks.specs.Progress.{KnowsNext};
-ghost use Rattle.first_pass_blocks.specs.Views.{allocs_of, front_of, source_of, source_options, source_text, state_of, tree_of};
+ghost use Rattle.first_pass_blocks.specs.Views.{allocs_of, source_of, source_options, source_text, state_of, tree_of};
 
 use crate::state::BlockPass;
 use first_pass_items::item::{Item, ItemBody};

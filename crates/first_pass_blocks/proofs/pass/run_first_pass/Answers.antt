@@ -16,21 +16,25 @@ use Rattle.first_pass_blocks.proofs.pass.run_first_pass.Goals as goal
 
 pub loop-ix-init : goal.loop-ix-init
 loop-ix-init c = record {
-  same_text = c.in_ok-pass.ensures.text;
-  same_options = c.in_ok-pass.ensures.options;
-  boundary = IsCharBoundary-start c.args.text.now c.utf8.text;
-  ready = λ names more. rw c.in_ok-pass.ensures.empty (c.in_ok-pass.ensures.ready names);
-  order = inl c.in_ok-pass.ensures.order;
-  named = c.in_ok-pass.ensures.named;
-  written = none_written c.args.text.now c.in_ok-pass.pass.allocs c.in_ok-pass.ensures.empty;
-  node_bound = (let root = c.in_ok-pass.ensures.root in let most = own_at_most None c.in_ok-pass.pass.state.tree.nodes in omega arith);
+  read = record {
+    same_text = c.in_ok-pass.ensures.text;
+    same_options = c.in_ok-pass.ensures.options;
+    boundary = IsCharBoundary-start c.args.text.now c.utf8.text;
+    ready = λ names more. rw c.in_ok-pass.ensures.empty (c.in_ok-pass.ensures.ready names);
+    order = inl c.in_ok-pass.ensures.order;
+    named = c.in_ok-pass.ensures.named;
+    written = none_written c.args.text.now c.in_ok-pass.pass.allocs c.in_ok-pass.ensures.empty;
+    node_bound = (let root = c.in_ok-pass.ensures.root in let most = own_at_most None c.in_ok-pass.pass.state.tree.nodes in omega arith);
+  };
+  within = c.sample_end-part_end.ensures.within;
+  last = c.sample_end-part_end.ensures.last;
 }
 
 pub loop-pass-init : goal.loop-pass-init
 loop-pass-init c =
     let one = c.in_ok-ix.ensures in
     let later = one.block.later in
-    record { read = block_more c.loop-ix.invariant one.block (omega arith); front = one.front; later = omega arith }
+    record { read = block_more c.loop-ix.invariant.read one.block (omega arith); front = one.front; later = omega arith }
 
 pub loop-pass-preserved : goal.loop-pass-preserved
 loop-pass-preserved c =
@@ -42,12 +46,25 @@ loop-pass-preserved c =
 pub loop-ix-preserved : goal.loop-ix-preserved
 loop-ix-preserved c =
     let more = c.read_blank_lines-ix.ensures in
-    room_made (lines_more c.loop-pass.invariant.read more.later more.boundary more.read) c.in_ok-sample_end.ensures
+    let room = c.reserve_once-part_end.ensures in
+    let same_text = c.loop-pass.invariant.read.same_text in
+    record {
+      read = room_made (lines_more c.loop-pass.invariant.read more.later more.boundary more.read) room.same;
+      within = rw same_text at room.within c.loop-ix.invariant.within;
+      last = rw same_text at room.last;
+    }
 
 -- At the end of the text no block has ended at a blank line.
 at_end : (options : Options) (text : List ℕ) (r : PassState) (at : ℕ) → length text ≤ at → IsReadFrom options text r at → IsReadTo text r at
 at_end options text r at past (inl o) = o
 at_end options text r at past (inr h) = (let within = h.0.within in absurd (omega arith))
+
+-- The part that is read last ends at the end of the text.
+past_end : (c : After-drop-pass-2) → length c.args.text.now ≤ c.loop-ix.ix
+past_end c =
+    let past = c.loop-ix-test.false in
+    let last = c.loop-ix.invariant.last past in
+    omega arith
 
 -- At the end of the text all containers are closed.
 all_closed : (c : After-drop-pass-2) → c.close_containers.new.state.tree.spine ≡ []
@@ -59,9 +76,9 @@ derived : (c : After-drop-pass-2)
 derived c =
     let names = names_of c.loop-ix.pass.allocs in
     let d = document c.args.text.now c.args.options names in
-    let i = c.loop-ix.invariant in
+    let i = c.loop-ix.invariant.read in
     let now = c.close_containers.new.state in
-    let here = rw (lines_at-end c.args.text.now c.loop-ix.ix c.loop-ix-test.false) at (i.ready names (extends_equal _ _ refl)) in
+    let here = rw (lines_at-end c.args.text.now c.loop-ix.ix (past_end c)) at (i.ready names (extends_equal _ _ refl)) in
     let closed : Ready d (tables_of c.loop-ix.pass.allocs) now [] =
     c.close_containers.ensures.kept.ready d (tables_of c.loop-ix.pass.allocs) [] refl (λ m low high. refl) here in
     ready_finish d (tables_of c.loop-ix.pass.allocs) now (all_closed c) closed
@@ -86,12 +103,12 @@ returns-clause-settled c =
 pub returns-clause-order : goal.returns-clause-order
 returns-clause-order c =
     let text = c.args.text.now in
-    let i = c.loop-ix.invariant in
+    let i = c.loop-ix.invariant.read in
     let n = length text in
     let last = IsCharBoundary-end text in
     let now : PassState = c.close_containers.new.state in
     let read : PassState = c.loop-ix.pass.state in
-    let past = c.loop-ix-test.false in
+    let past = past_end c in
     let order = at_end c.args.options text read c.loop-ix.ix (omega arith) i.order in
     let within = order.0.within in
     let same : c.loop-ix.ix ≡ n = omega arith in
@@ -101,8 +118,8 @@ returns-clause-order c =
 
 pub returns-clause-counted : goal.returns-clause-counted
 returns-clause-counted c =
-    let read = c.loop-ix.invariant.node_bound in
-    let within = c.loop-ix.invariant.boundary.0 in
+    let read = c.loop-ix.invariant.read.node_bound in
+    let within = c.loop-ix.invariant.read.boundary.0 in
     let closed = c.close_containers.ensures.kept.state.count in
     omega arith
 

@@ -4,7 +4,11 @@ use Rattle.first_pass_blocks.proofs.BlockRead.{IsReadUpTo}
 use Rattle.first_pass_blocks.proofs.pass.run_first_pass.Given as goal
 
 abbrev pub invariant-loop-ix : goal.invariant-loop-ix
-invariant-loop-ix l = IsReadUpTo l.text l.fn.options l.pass l.ix
+invariant-loop-ix l = record {
+  read : IsReadUpTo l.text l.fn.options l.pass l.ix;
+  within : l.part_end ≤ length l.text;
+  last : l.part_end ≤ l.ix → length l.text ≤ l.part_end;
+}
 
 abbrev pub decreases-loop-ix : goal.decreases-loop-ix
 decreases-loop-ix l = length l.text - l.ix
