@@ -125,6 +125,28 @@ fn long_paragraphs_and_tables(rt: HostRuntime) -> Result<(), Fail> {
     Ok(())
 }
 
+// After the first 64 KiB room is made for the rest, and what was read before stays.
+#[test]
+fn headings_with_definitions(rt: HostRuntime) -> Result<(), Fail> {
+    let text = repeated(rt.alloc(), &[("# a {#b}\n[c]: d\n", 8192)])?;
+    let options = Options::ENABLE_HEADING_ATTRIBUTES;
+    let (tree, allocs) = run_first_pass(rt.alloc(), text.as_str(), options)?;
+    // The root, and the headings with a text each.
+    assert_eq!(rt; tree.node_count(), 16_385);
+    let has_id = |node: &&(usize, Item)| match node.1.body {
+        ItemBody::Heading(_, Some(ix)) => {
+            allocs.attributes_at(ix).and_then(|found| found.id) == Some("b")
+        }
+        _ => false,
+    };
+    assert_eq!(rt; tree.nodes().iter().filter(has_id).count(), 8192);
+    // The first of the definitions.
+    assert_eq!(rt; allocs.refdefs().iter().count(), 1);
+    let found = allocs.refdefs().get("c")?;
+    assert!(rt; found.is_some_and(|link| link.span.start == 9 && link.span.end == 15));
+    Ok(())
+}
+
 #[test]
 fn raw_text_without_its_end(rt: HostRuntime) -> Result<(), Fail> {
     let cases: &[(&[(&str, usize)], usize, usize)] = &[
