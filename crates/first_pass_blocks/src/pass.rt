@@ -128,34 +128,21 @@ impl<'a> BlockPass<'a> {
         Ok(next)
     }
 
-    // Makes room for the rest of the text once it has been read up to the end of the sample. `read` is the offset up to
-    // which it has been read. `part_end` is the end of the sample, and after that the end of the text; returns the one up
-    // to which to read now.
-    #[inline(always)]
-    fn reserve_once(&mut self, read: usize, part_end: usize) -> usize
-        ensures same { HasSameParts self.old self.new }
-        ensures within { part_end ≤ length (source_text self.old) → result ≤ length (source_text self.old) }
-        ensures last { result ≤ read → length (source_text self.old) ≤ result }
-    {
-        if read < part_end {
-            return part_end;
-        }
-        let end = self.source.text.len();
-        if read < end {
-            self.reserve_for_rest(read);
-        }
-        end
-    }
-
     // Makes room for the nodes, link definitions and heading attributes of the rest of the text, if it is like the part
-    // before the offset `read`. If such room is refused, the lists grow when they have to.
+    // before the offset `read`. Does nothing if nothing is left. If such room is refused, the lists grow when they have
+    // to.
     #[inline(never)]
     fn reserve_for_rest(&mut self, read: usize)
         ensures { HasSameParts self.old self.new }
     {
         let whole = self.source.text.len();
-        let rest = whole.saturating_sub(read);
-        let sample = Sample { read, rest };
+        if whole <= read {
+            return;
+        }
+        let sample = Sample {
+            read,
+            rest: whole - read,
+        };
         let count = self.state.tree.node_count();
         let most = MOST_NODES_EXPECTED.min(whole / BYTES_A_NODE);
         let expected = count.saturating_add(sample.expected_more(count)).min(most);
@@ -374,14 +361,18 @@ pub fn run_first_pass<'a>(
 {
     let mut pass = BlockPass::new(alloc, text, options)?;
     let mut ix = 0;
+    // The outer loop runs at most twice: for the sample, and for the rest of the text. In between, room is made for it.
     let mut part_end = sample_end(text.len());
     while ix < part_end {
-        ix = pass.parse_block(ix)?;
-        while pass.next_front.is_known && ix < part_end {
-            ix = pass.parse_known(ix)?;
+        while ix < part_end {
+            ix = pass.parse_block(ix)?;
+            while pass.next_front.is_known && ix < part_end {
+                ix = pass.parse_known(ix)?;
+            }
+            ix = read_blank_lines(&pass.state, &pass.source, ix);
         }
-        ix = read_blank_lines(&pass.state, &pass.source, ix);
-        part_end = pass.reserve_once(ix, part_end);
+        pass.reserve_for_rest(ix);
+        part_end = text.len();
     }
     close_containers(&mut pass.state, 0, text.len());
     let BlockPass {
@@ -396,10 +387,10 @@ pub fn run_first_pass<'a>(
     Ok((tree, allocs))
 }
 
-// Returns the end of the part at the start of a text of this many bytes by which the rest is judged.
+// Returns the end of the sample in a text of this many bytes: of the part at its start by which the rest is judged.
 fn sample_end(bytes: usize) -> usize
     ensures within { result ≤ bytes }
-    ensures last { result ≤ 0 → bytes ≤ result }
+    ensures some { result ≤ 0 → bytes ≤ result }
 {
     bytes.min(SAMPLE_BYTES)
 }

@@ -27,14 +27,14 @@ loop-ix-init c = record {
     node_bound = (let root = c.in_ok-pass.ensures.root in let most = own_at_most None c.in_ok-pass.pass.state.tree.nodes in omega arith);
   };
   within = c.sample_end-part_end.ensures.within;
-  last = c.sample_end-part_end.ensures.last;
+  last = c.sample_end-part_end.ensures.some;
 }
 
 pub loop-pass-init : goal.loop-pass-init
 loop-pass-init c =
     let one = c.in_ok-ix.ensures in
     let later = one.block.later in
-    record { read = block_more c.loop-ix.invariant.read one.block (omega arith); front = one.front; later = omega arith }
+    record { read = block_more c.loop-ix-2.invariant one.block (omega arith); front = one.front; later = omega arith }
 
 pub loop-pass-preserved : goal.loop-pass-preserved
 loop-pass-preserved c =
@@ -43,16 +43,14 @@ loop-pass-preserved c =
     let before = c.loop-pass.invariant.later in
     record { read = block_more c.loop-pass.invariant.read one.block (omega arith); front = one.front; later = omega arith }
 
+pub loop-ix-2-preserved : goal.loop-ix-2-preserved
+loop-ix-2-preserved c =
+    let more = c.read_blank_lines-ix.ensures in
+    lines_more c.loop-pass.invariant.read more.later more.boundary more.read
+
 pub loop-ix-preserved : goal.loop-ix-preserved
 loop-ix-preserved c =
-    let more = c.read_blank_lines-ix.ensures in
-    let room = c.reserve_once-part_end.ensures in
-    let same_text = c.loop-pass.invariant.read.same_text in
-    record {
-      read = room_made (lines_more c.loop-pass.invariant.read more.later more.boundary more.read) room.same;
-      within = rw same_text at room.within c.loop-ix.invariant.within;
-      last = rw same_text at room.last;
-    }
+    record { read = room_made c.loop-ix-2.invariant c.reserve_for_rest.ensures; within = omega arith; last = λ _. omega arith }
 
 -- At the end of the text no block has ended at a blank line.
 at_end : (options : Options) (text : List ℕ) (r : PassState) (at : ℕ) → length text ≤ at → IsReadFrom options text r at → IsReadTo text r at

@@ -13,6 +13,12 @@ invariant-loop-ix l = record {
 abbrev pub decreases-loop-ix : goal.decreases-loop-ix
 decreases-loop-ix l = length l.text - l.ix
 
+abbrev pub invariant-loop-ix-2 : goal.invariant-loop-ix-2
+invariant-loop-ix-2 l = IsReadUpTo l.text l.fn.options l.pass l.ix
+
+abbrev pub decreases-loop-ix-2 : goal.decreases-loop-ix-2
+decreases-loop-ix-2 l = length l.text - l.ix
+
 abbrev pub invariant-loop-pass : goal.invariant-loop-pass
 invariant-loop-pass l = record {
   read : IsReadUpTo l.text l.fn.options l.pass l.ix;
