@@ -80,7 +80,7 @@ said IsLast p = Judged.IsLast p
 said (Closes e) p = Judged.Closes e
 said (Stops e) p = Judged.Stops e
 
--- a byte that is neither that of a fence nor `\r` (this project)
+-- a byte that is neither the given byte of a fence nor `\r` (this project)
 abbrev pub is_unmarked : ℕ → ℕ → Bool
 is_unmarked fence_byte b = not (b == fence_byte || b == carriage_return)
 

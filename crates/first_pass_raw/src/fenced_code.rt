@@ -1,7 +1,8 @@
 //! Fenced code blocks (CommonMark 4.5).
 
-ghost use Rattle.std.specs.Prelude.{◌≡◌, ◌≤◌, ℕ, length, drop, true, None, Some, IfOk, OnOk, IsCharBoundary, IsUtf8};
+ghost use Rattle.std.specs.Prelude.{◌≡◌, ◌≤◌, ◌+◌, ℕ, length, drop, true, None, Some, IfOk, OnOk, IsCharBoundary, IsUtf8};
 ghost use Rattle.std.specs.List.{prefix_len};
+ghost use Rattle.first_pass_lines.specs.Lanes.{IsRunIn};
 ghost use Rattle.first_pass_lines.specs.Places.{place_at, IsPlaceOf};
 ghost use Rattle.first_pass_grammar.specs.Leaves.{document};
 ghost use Rattle.first_pass_open.specs.Path.{path_of};
@@ -14,6 +15,7 @@ use crate::extent::{JudgesLines, read_lines};
 use crate::raw_line::RawKind;
 use crate::verdict::Verdict;
 use first_pass_items::item::{Item, ItemBody};
+use first_pass_lines::lanes::{LANES, first_set};
 use first_pass_lines::lines::{scan_whitespace_no_nl, trailing_white};
 use first_pass_lines::places::{next_line, rest_of};
 use first_pass_links::escape::unescape;
@@ -23,9 +25,10 @@ use first_pass_open::source::Source;
 use first_pass_scan::leaf_scan::scan_closing_code_fence;
 use first_pass_scan::line_start::LineStart;
 use first_pass_tree::forest::Tree;
-use memchr::{memchr2, memrchr};
+use memchr::memrchr;
 use std::alloc::AllocError;
 use std::ops::Range;
+use std::simd::prelude::*;
 
 /// A code fence that opens a block: the columns before it, its byte, and its length in bytes.
 #[derive(Clone, Copy)]
@@ -47,8 +50,8 @@ impl JudgesLines for Fence {
         RawKind::Code
     }
 
-    // The whole lines before the first that has the fence's byte or a `\r`. None if columns are removed from each line,
-    // or for a fence of no bytes, which a blank line would close.
+    // The whole lines before the first that has the fence's byte or a `\r`. Finds none if columns are removed from each
+    // line, or if the fence has no bytes, since a blank line would close it.
     fn whole_lines(&self, text: &[u8], start: usize) -> usize {
         if self.indent != 0 || self.count == 0 {
             return start;
@@ -133,15 +136,44 @@ fn begins_otherwise(line_start: &LineStart<'_>, fence: Fence) -> bool
     }
 }
 
-// The number of bytes before the first that is the byte of the fence or `\r`.
+// The number of bytes before the first that is the byte of the fence or `\r`. They are read 16 at a time: most code is
+// short, and `memchr2` has a higher cost to start.
 fn unmarked_len(bytes: &[u8], fence_byte: u8) -> usize
     ensures value { result ≡ prefix_len (is_unmarked fence_byte) bytes.now }
     ensures within { result ≤ length bytes.now }
 {
-    match memchr2(fence_byte, b'\r', bytes) {
-        Some(at) => at,
-        None => bytes.len(),
+    let mut from = 0;
+    while bytes.len() - from >= LANES {
+        let run = unmarked_run(bytes, from, fence_byte);
+        from += run;
+        if run < LANES {
+            return from;
+        }
     }
+    from + short_unmarked_len(&bytes[from..], fence_byte)
+}
+
+// The number of bytes before the byte of the fence or a `\r` among the 16 bytes from the offset `at` on, or 16.
+#[inline(always)]
+fn unmarked_run(bytes: &[u8], at: usize, fence_byte: u8) -> usize
+    requires { at + 16 ≤ length bytes.now }
+    ensures { IsRunIn (is_unmarked fence_byte) bytes.now at 16 result }
+{
+    let lanes = u8x16::from_slice(&bytes[at..]);
+    let marks = lanes.simd_eq(u8x16::splat(fence_byte)) | lanes.simd_eq(u8x16::splat(b'\r'));
+    first_set(marks.to_bitmask())
+}
+
+// The same as `unmarked_len`, one byte at a time, for the last bytes of a text.
+#[inline(never)]
+fn short_unmarked_len(bytes: &[u8], fence_byte: u8) -> usize
+    ensures value { result ≡ prefix_len (is_unmarked fence_byte) bytes.now }
+    ensures within { result ≤ length bytes.now }
+{
+    bytes
+        .iter()
+        .take_while(|b| **b != fence_byte && **b != b'\r')
+        .count()
 }
 
 // The end of the closing fence in the rest of a line of the text, if there is one; `start` is the start of the line.
