@@ -39,7 +39,8 @@ use Rattle.first_pass.specs.declared.state.FirstPass.{FirstPass}
 use Rattle.first_pass.specs.Holds.{after_row}
 use Rattle.first_pass.specs.Lines.{ReadsInMode}
 use Rattle.first_pass.specs.Kept.{StayNamed, KeepsEntries, KeepsNames, KeepsTables}
-use Rattle.first_pass.specs.Views.{allocs_of, braces_of, context_in, document_named, pass_of, state_of, source_of, source_options, source_text, tree_of, with_tree}
+use Rattle.first_pass.specs.Views.{allocs_of, braces_of, context_in, document_named, pass_of, state_of, source_of}
+use Rattle.first_pass.specs.Views.{source_options, source_text, tree_of, with_tree}
 
 -- The state of a pass over this text under these options before it reads anything: the root is its only node, nothing
 -- is defined, no brace context is open, and the derivation of the text begins here (this project).

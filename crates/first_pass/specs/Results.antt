@@ -1,5 +1,6 @@
 -- The results of the calls that only read the text: one record for each call.
-use Rattle.std.specs.Prelude.{◌≡◌, ℕ, ◌+◌, ◌-◌, ◌<◌, ◌&&◌, ◌||◌, not, Bool, true, false, List, length, take, drop, Option, None, Some, Result, IfOk, OnErr, IfSome}
+use Rattle.std.specs.Prelude.{◌≡◌, ℕ, ◌+◌, ◌-◌, ◌<◌, ◌&&◌, ◌||◌, not, Bool, true, false, List, length, take, drop, Option, None, Some}
+use Rattle.std.specs.Prelude.{Result, IfOk, OnErr, IfSome}
 use Rattle.std.specs.Prelude.{IsSomeAnd, MatchOption, IsCharBoundary, if◌then◌else◌}
 use Rattle.std.specs.List.{list_any, slice_range}
 use Rattle.std.specs.Option.{option_map}

@@ -3,7 +3,8 @@ use Rattle.std.proofs.Common.{◌≡◌, ℕ, ◌+◌, ◌<◌, ◌≤◌, Bool,
 use Rattle.std.proofs.Common.{arith, ◌*◌}
 use Rattle.first_pass_grammar.proofs.Common.{Item, line_len, Place, offset, line_end, line_end_boundary, document, AreNamed, Names, Extends, GrowsBy}
 use Rattle.first_pass_grammar.proofs.Common.{IsForest, Options, counted_nodes, lines_from, IsPlaceOf}
-use Rattle.first_pass_blocks.proofs.Common.{tables_in, tables_of, names_of, Allocations, extends_equal, extends_both, extends_none, TablesAreWritten, Source, PassState}
+use Rattle.first_pass_blocks.proofs.Common.{tables_in, tables_of, names_of, Allocations, extends_equal, extends_both, extends_none}
+use Rattle.first_pass_blocks.proofs.Common.{TablesAreWritten, Source, PassState}
 use Rattle.first_pass_blocks.proofs.Common.{AfterMarker, OnLine, TaskText, LineEnds, OnlyTag, Position, LineAt, InLine, LeafAt, IsNotBefore, ReadsTo}
 use Rattle.first_pass_blocks.proofs.Common.{StaysSame, ReadsLeaf, last_at, IsStateAtPlace, place_before_end, only_leaf, reads_none, allocs_of, front_of}
 use Rattle.first_pass_blocks.proofs.Common.{state_of, source_of, source_text, tree_of, source_options, IsReadFrom, Ready}

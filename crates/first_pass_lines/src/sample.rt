@@ -13,9 +13,9 @@ pub struct Sample {
 }
 
 impl Sample {
-    /// Returns an estimate, seldom too low, of how many are in the rest of the text, if it is like the part that was read
-    /// and `seen` are in that part. The rest is divided into parts of that size; the last one counts as a full one (this
-    /// project).
+    /// Returns an estimate, seldom too low, of how many are in the rest of the text, if it is like the part that was
+    /// read and `seen` are in that part. The rest is divided into parts of that size; the last one counts as a full one
+    /// (this project).
     pub fn expected_more(&self, seen: usize) -> usize
         ensures { result ≡ min (seen * parts_of (max self.now.read 1) self.now.rest) (2 ^ 64 - 1) }
     {

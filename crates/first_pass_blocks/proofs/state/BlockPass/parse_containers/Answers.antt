@@ -1,6 +1,6 @@
 use Rattle.std.proofs.Common.{◌≡◌, ℕ, ◌<◌, Bool, true, false, length, Option, Some, None, MatchOption, IsSomeAnd, IsUtf8, IsCharBoundary, refl, sym, subst}
 use Rattle.std.proofs.Common.{ap, ◌∙◌, arith}
-use Rattle.first_pass_grammar.proofs.Common.{Place, offset, line_end, place_length, IsForest, in_table, at_rest, footnote_head_at, start_at}
+use Rattle.first_pass_grammar.proofs.Common.{Place, line_end, place_length, IsForest, in_table, at_rest, footnote_head_at, start_at}
 use Rattle.first_pass_blocks.proofs.Common.{context_of, Source, PassState, AfterMarker, OnLine, TaskText, LineEnds, OnlyTag, StaysSame, TriesFootnote}
 use Rattle.first_pass_blocks.proofs.Common.{Position, InLine, LeafAt, IsNotBefore, ReadsTo, last_at, FinishesNothing, state_of, source_of, tree_of}
 use Rattle.first_pass_blocks.proofs.Common.{source_options, source_text, only_leaf}
