@@ -8,7 +8,7 @@ ghost use Rattle.first_pass_items.specs.CowText.{text_of};
 ghost use Rattle.first_pass_lines.specs.Lanes.{IsRunIn};
 ghost use Rattle.first_pass_links.specs.Escapes.{unescaped};
 ghost use Rattle.first_pass_links.specs.Plain.{is_unmarked};
-ghost use Rattle.first_pass_entities.specs.Entities.{entity_at, numeric_at};
+ghost use Rattle.first_pass_entities.specs.Entities.{entity_at, name_at, numeric_at};
 ghost use Rattle.first_pass_entities.specs.Texts.{Borrows, TakesNoMemory};
 ghost use Rattle.first_pass_links.specs.Changes.{change_at, IsChange};
 ghost use Rattle.first_pass_links.specs.Units.{part};
@@ -135,8 +135,8 @@ fn change_at(bytes: &[u8], in_table: bool) -> Option<(usize, char)>
     }
 }
 
-// The same for a reference. `scan_reference` is not inlined, and most bytes begin no reference. Nor is it called after
-// `&#` if no number can follow.
+// The same for a reference. `scan_reference` is not inlined, and most bytes begin no reference. So it is called only if
+// a number can follow `&#`, or a name can follow `&`.
 #[inline(always)]
 #[tactic(auto, unfolding(first_pass_entities::specs::Entities::entity_at))]
 fn reference_at(bytes: &[u8]) -> Option<(usize, char)>
@@ -145,10 +145,26 @@ fn reference_at(bytes: &[u8]) -> Option<(usize, char)>
     if !begins(b'&', bytes) {
         return None;
     }
-    if begins(b'#', rest_of(bytes, 1)) && !may_begin_number(rest_of(bytes, 2)) {
+    let rest = rest_of(bytes, 1);
+    if begins(b'#', rest) {
+        if !may_begin_number(rest_of(bytes, 2)) {
+            return None;
+        }
+    } else if !may_begin_name(rest) {
         return None;
     }
     scan_reference(bytes)
+}
+
+// Returns `false` only if no name of an entity begins here. Such a name begins with a letter.
+#[inline(always)]
+fn may_begin_name(bytes: &[u8]) -> bool
+    ensures { result ≡ false → name_at bytes.now ≡ None }
+{
+    if bytes.is_empty() {
+        return false;
+    }
+    bytes[0].is_ascii_alphabetic()
 }
 
 // Returns `false` only if no number of a numeric reference begins here. Such a number begins with a digit, or with an

@@ -1,4 +1,4 @@
-use Rattle.std.proofs.Common.{inl, refl, arith, ◌-◌}
+use Rattle.std.proofs.Common.{inl, refl, arith}
 use Rattle.std.proofs.lemmas.Str.{IsCharBoundary-start}
 use Rattle.first_pass_links.specs.Changes.{IsChange}
 use Rattle.first_pass_links.proofs.Escapes.{written_more, change_differs}
