@@ -10,6 +10,7 @@ pub mod LineFound
 pub mod LineLemmas
 pub mod MarkupLemmas
 pub mod NamedTexts
+pub mod NearPipes
 pub mod OrderLemmas
 pub mod PieceFacts
 pub mod QuickPieces

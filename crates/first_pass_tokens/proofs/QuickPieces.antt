@@ -1,16 +1,16 @@
 -- The pieces that `quick_piece` finds at once.
 use Rattle.std.proofs.Common.{◌≡◌, ℕ, ◌+◌, ◌<◌, ◌==◌, Bool, false, true, List, length, refl, sym, ap, arith, slice_index}
-use Rattle.std.proofs.lemmas.Bool.{cases_lt}
+use Rattle.std.proofs.lemmas.Bool.{cases_lt, or_parts}
 use Rattle.std.proofs.lemmas.Bool.Decides.{nat_tests}
 use Rattle.std.specs.Char.{is_ascii_punctuation}
 use Rattle.first_pass_items.specs.Bytes.{ampersand, dollar_sign, left_brace, right_brace, less_than, left_bracket, backslash, backquote, pipe, right_bracket}
 use Rattle.first_pass_items.specs.Bytes.{exclamation_mark, full_stop, hyphen}
-use Rattle.first_pass_items.specs.declared.item.ItemBody.TheVariants.{MaybeHtml, MaybeLinkOpen, MaybeLinkClose}
-use Rattle.first_pass_tokens.specs.declared.pieces.Piece.TheVariants.{Token, Left}
+use Rattle.first_pass_items.specs.declared.item.ItemBody.TheVariants.{MaybeHtml, MaybeImage, MaybeLinkOpen, MaybeLinkClose}
+use Rattle.first_pass_tokens.specs.declared.pieces.Piece.TheVariants.{Token, Left, Begins}
 use Rattle.first_pass_tokens.specs.declared.pieces.Piece.{Piece}
 use Rattle.first_pass_tokens.specs.declared.pieces.TokenStart.TheVariants.{Ready}
-use Rattle.first_pass_tokens.specs.Pieces.{Inline, is_delimiter, delimiter_piece, special_found, special_piece, backslash_piece, backslash_piece_in}
-use Rattle.first_pass_tokens.specs.Pieces.{bracket_piece, dot_piece, dash_found, dash_piece, run_at, IsReadyAt}
+use Rattle.first_pass_tokens.specs.Pieces.{Inline, is_delimiter, delimiter_piece, special_found, special_piece, backslash_piece, backslash_piece_in, backquote_piece}
+use Rattle.first_pass_tokens.specs.Pieces.{bracket_piece, dot_piece, dash_found, dash_piece, run_at, is_quick_at, IsReadyAt}
 use Rattle.first_pass_walk.proofs.WalkFacts.{isnt}
 use Rattle.first_pass_tokens.proofs.PieceFacts.{run_some, run_same}
 
@@ -26,6 +26,11 @@ left_ready z at here = rw here refl
 pub right_ready : (z : Inline) (at : ℕ) → slice_index z.text at ≡ right_bracket → IsReadyAt z at (Token 0 1 (MaybeLinkClose true))
 unfolding special_found special_piece bracket_piece
 right_ready z at here = rw here refl
+
+pub image_ready : (z : Inline) (at : ℕ) → slice_index z.text at ≡ exclamation_mark → (slice_index z.text (at + 1) == left_bracket) ≡ true
+    → IsReadyAt z at (Token 0 2 MaybeImage)
+unfolding special_found special_piece bracket_piece
+image_ready z at here other = rw here (rw other refl)
 
 pub exclamation_ready : (z : Inline) (at : ℕ) → slice_index z.text at ≡ exclamation_mark → (slice_index z.text (at + 1) == left_bracket) ≡ false
     → IsReadyAt z at (Left 1)
@@ -52,6 +57,16 @@ pub backslash_ready : (z : Inline) (at : ℕ) → slice_index z.text at ≡ back
 unfolding special_found special_piece
 backslash_ready z at here other = rw here (ap Ready (backslash_left z.row z.text at other))
 
+-- outside a row, a backslash before ASCII punctuation other than a backquote is an escape
+pub escape_ready : (z : Inline) (at : ℕ) → slice_index z.text at ≡ backslash → z.row ≡ false → is_ascii_punctuation (slice_index z.text (at + 1)) ≡ true
+    → (slice_index z.text (at + 1) == backquote) ≡ false → IsReadyAt z at (Begins 1 true)
+unfolding special_found special_piece backslash_piece
+escape_ready z at here outside escaped other = rw (here, outside, other, escaped) refl
+
+pub backquote_ready : (z : Inline) (at : ℕ) (piece : Piece) → slice_index z.text at ≡ backquote → piece ≡ backquote_piece z.text at → IsReadyAt z at piece
+unfolding special_found special_piece
+backquote_ready z at piece here is = rw here (ap Ready (sym is))
+
 -- a byte with no equal one after it is a run of one
 pub run_one : (text : List ℕ) (at b : ℕ) → at < length text → slice_index text at ≡ b → (slice_index text (at + 1) == b) ≡ false → run_at text at ≡ 1
 run_one text at b within here other = grind (arith, cases_lt, run_same, run_some)
@@ -68,3 +83,7 @@ delimiter_ready z at piece h is =
     let no : (c : ℕ) → is_delimiter c ≡ false → slice_index z.text at == c ≡ false = λ c k. isnt is_delimiter (slice_index z.text at) c h k in
     rw (no ampersand refl, no hyphen refl, no dollar_sign refl, no left_brace refl, no right_brace refl, no backslash refl, no backquote refl, h)
     (ap Ready (sym is))
+
+-- no run of delimiters is left for `special_found`
+pub no_delimiter : (row : Bool) (text : List ℕ) (at : ℕ) → is_quick_at row text at ≡ false → is_delimiter (slice_index text at) ≡ false
+no_delimiter row text at none = (or_parts (is_delimiter (slice_index text at)) _ none).0

@@ -3,7 +3,8 @@
 use Rattle.std.specs.Prelude.{◌≡◌, ℕ, ◌+◌, ◌-◌, ◌%◌, ◌==◌, ◌<◌, ◌≤◌, ◌&&◌, ◌||◌, Bool, true, false, List, [], ◌∷◌, length, drop, slice_index, Option, Some}
 use Rattle.std.specs.Prelude.{None, IfSome, nat_lt, nat_le, min, if◌then◌else◌}
 use Rattle.std.specs.List.{slice_range, prefix_len, suffix_len}
-use Rattle.first_pass_items.specs.Bytes.{line_feed, carriage_return, backslash, pipe}
+use Rattle.std.specs.Char.{is_ascii_alphanumeric}
+use Rattle.first_pass_items.specs.Bytes.{line_feed, carriage_return, backslash, hyphen, pipe}
 use Rattle.first_pass_items.specs.OptionWords.{has, tables}
 use Rattle.first_pass_items.specs.declared.item.Item.{Item}
 use Rattle.first_pass_items.specs.declared.item.ItemBody.{ItemBody}
@@ -26,6 +27,14 @@ ends_cell s b = s.row && (has s.options tables && b == pipe)
 -- cell; an escaped pipe is inside a piece (GFM 4.10)
 unfoldable pub content_ends_at : Inline → ℕ → Bool
 content_ends_at s at = nat_le (length s.text) at || (is_line_end (slice_index s.text at) || ends_cell s (slice_index s.text at))
+
+-- an ASCII letter, a digit or a hyphen (this project)
+abbrev pub is_word_or_hyphen : ℕ → Bool
+is_word_or_hyphen b = is_ascii_alphanumeric b || b == hyphen
+
+-- the byte at an offset is a pipe, or a letter, digit or hyphen before a pipe (this project)
+abbrev pub is_near_pipe : List ℕ → ℕ → Bool
+is_near_pipe text at = slice_index text at == pipe || (is_word_or_hyphen (slice_index text at) && slice_index text (at + 1) == pipe)
 
 -- the content ends at this offset, and the first marked byte from its start on is there (this project)
 pub record EndsAtFirstMark (lut : List Bool) (s : Inline) (at : ℕ) : Type 0 where

@@ -142,11 +142,12 @@ bracket_piece text at =
     else (if slice_index text at == right_bracket then Token 0 1 (MaybeLinkClose true)
     else Left 1)))
 
--- the byte at an offset is `[`, `]`, or `<` with no backslash after it (CommonMark 6.3 to 6.6)
+-- the bytes at an offset are `[`, `]`, `![`, or `<` with no backslash after it (CommonMark 6.3 to 6.6)
 abbrev pub is_bracket_at : List ℕ → ℕ → Bool
 is_bracket_at text at =
     (slice_index text at == less_than && not (slice_index text (at + 1) == backslash))
-    || (slice_index text at == left_bracket || slice_index text at == right_bracket)
+    || ((slice_index text at == exclamation_mark && slice_index text (at + 1) == left_bracket)
+    || (slice_index text at == left_bracket || slice_index text at == right_bracket))
 
 -- The byte at an offset is `!` with no `[` after it, `.` with no `.` after it, `-` with no `-` after it, or a backslash
 -- with no ASCII punctuation after it. The piece is one byte of plain text (CommonMark 2.4, 6.4; smart punctuation: this
@@ -157,6 +158,18 @@ is_plain_mark_at text at =
     || ((slice_index text at == full_stop && not (slice_index text (at + 1) == full_stop))
     || ((slice_index text at == hyphen && not (slice_index text (at + 1) == hyphen))
     || (slice_index text at == backslash && not (is_ascii_punctuation (slice_index text (at + 1))))))
+
+-- the byte at an offset is a backslash before ASCII punctuation other than a backquote (CommonMark 2.4)
+abbrev pub is_plain_escape_at : List ℕ → ℕ → Bool
+is_plain_escape_at text at =
+    slice_index text at == backslash && (is_ascii_punctuation (slice_index text (at + 1)) && not (slice_index text (at + 1) == backquote))
+
+-- The piece at an offset is known from its first byte and the one after it: that of a run of delimiters or backquotes,
+-- of a bracket, of one byte of plain text, or, outside a row, of an escape (this project).
+abbrev pub is_quick_at : Bool → List ℕ → ℕ → Bool
+is_quick_at row text at =
+    is_delimiter (slice_index text at) || (slice_index text at == backquote
+    || (is_bracket_at text at || (is_plain_mark_at text at || (not row && is_plain_escape_at text at))))
 
 -- the byte at an offset of a content is an underscore between two ASCII letters or digits of the content: it neither
 -- opens nor closes (CommonMark 6.2)

@@ -10,14 +10,14 @@ ghost use Rattle.first_pass_tree.specs.Forest.{with_text};
 ghost use Rattle.first_pass_tokens.specs.Braces.{MathBraces};
 ghost use Rattle.first_pass_tokens.specs.NamedTexts.{AreMore};
 ghost use Rattle.first_pass_tokens.specs.Pieces.{source, content_in, text_upto, run_at, size};
-ghost use Rattle.first_pass_tokens.specs.LineTokens.{spot, line_end_len, text_end, break_of, line_break, content_ends_at, EndsAtFirstMark, EndsLine, EndsCell, IsCell};
+ghost use Rattle.first_pass_tokens.specs.LineTokens.{spot, is_near_pipe, line_end_len, text_end, break_of, line_break, content_ends_at, EndsAtFirstMark, EndsLine, EndsCell, IsCell};
 ghost use Rattle.first_pass_tokens.specs.TreeTokens.{with_tokens, AppendsLine, AppendsCell};
 ghost use Rattle.first_pass_tokens.specs.Chains.{run_tokens, add_text};
 ghost use Rattle.first_pass_tokens.specs.HeldText.{held_after, tree_after, IsHeldTo};
 
 use crate::braces::BraceContexts;
 use crate::named::named_piece;
-use crate::pieces::{Content, Piece, piece_len, quick_piece, run_len, special_found};
+use crate::pieces::{Content, Piece, byte_at, piece_len, quick_piece, run_len, special_found};
 use bitflags::Flags;
 use first_pass_items::cow_str::CowStr;
 use first_pass_items::item::{Item, ItemBody};
@@ -199,9 +199,9 @@ fn append_pieces(
         if special_ends_at(text, content, at) {
             return Ok((at, pending));
         }
-        // A pipe that ends no cell is plain text, as are those after it.
+        // A pipe that ends no cell is plain text, and others are often near it.
         if text[at] == b'|' {
-            from = run_end(text, at);
+            from = pipes_end(text, at);
             continue;
         }
         if let Some(known) = quick_piece(text, content, at) {
@@ -215,15 +215,28 @@ fn append_pieces(
     Ok((text.len(), pending))
 }
 
-// The end of the run of equal bytes at a place.
+// The end of the last of the pipes from a place on, if there is at most one byte between two of them: a letter, a
+// digit or a hyphen.
 #[inline(never)]
-fn run_end(text: &[u8], at: usize) -> usize
-    requires { at < length text.now }
-    ensures value { result ≡ at + run_at text.now at }
+fn pipes_end(text: &[u8], at: usize) -> usize
+    requires within { at < length text.now }
+    requires here { slice_index text.now at ≡ pipe }
     ensures some { at < result }
     ensures within { result ≤ length text.now }
+    ensures pipes { (k : ℕ) → at ≤ k → k < result → is_near_pipe text.now k ≡ true }
 {
-    at + run_len(text, at)
+    let mut end = at + 1;
+    loop {
+        let byte = byte_at(text, end);
+        let is_cell = byte.is_ascii_alphanumeric() | (byte == b'-');
+        if byte == b'|' {
+            end += 1;
+        } else if is_cell && byte_at(text, end + 1) == b'|' {
+            end += 2;
+        } else {
+            return end;
+        }
+    }
 }
 
 // Whether the content ends at a special byte: at a line ending, or at a pipe in a row. A pipe is special only with

@@ -3,7 +3,7 @@
 ghost use Rattle.std.specs.Prelude.{◌≡◌, ◌||◌, ◌+◌, ◌<◌, ◌≤◌, ◌^◌, true, false, IfSome, is_some, length, slice_index, take, ℕ, List, IsCharBoundary, IsUtf8};
 ghost use Rattle.first_pass_items.specs.Bytes.{backslash, backquote, hyphen, full_stop, underscore};
 ghost use Rattle.first_pass_tokens.specs.Braces.{MathBraces};
-ghost use Rattle.first_pass_tokens.specs.Pieces.{content_in, IsReadyAt, is_bracket_at, is_plain_mark_at, is_inside_word, is_solid_at, dollar_found, special_found, reference_found, dash_found, found_size, FoundSolid, special_piece, backslash_piece, backslash_piece_in, backquote_piece, is_delimiter, char_before, run_in, run_size, is_quote, quote_piece, dot_piece, run_piece, delimiter_piece, bracket_piece, run_at, size, EndsSolid};
+ghost use Rattle.first_pass_tokens.specs.Pieces.{content_in, IsReadyAt, is_quick_at, is_inside_word, is_solid_at, dollar_found, special_found, reference_found, dash_found, found_size, FoundSolid, special_piece, backslash_piece, backslash_piece_in, backquote_piece, is_delimiter, char_before, run_in, run_size, is_quote, quote_piece, dot_piece, run_piece, delimiter_piece, bracket_piece, run_at, size, EndsSolid};
 
 use first_pass_entities::entity::scan_reference;
 use first_pass_flank::flank::{DelimiterRun, ends_with_pipe, first_char, last_char};
@@ -86,20 +86,20 @@ pub(crate) fn special_found(text: &[u8], content: Content<'_>, at: usize) -> Tok
     }
 }
 
-/// Returns the piece at a special byte that is found at once: the token at `<` with no backslash after it, at `[` and
-/// at `]`, plain text at `!` with no `[` after it, at `.` with no `.` after it, at `-` with no `-` after it and at a
-/// backslash with no ASCII punctuation after it, and the piece of the run at `*`, `_`, `~` and `^`. A `_` between two
-/// ASCII letters or digits of the content is plain text. Returns `None` at any other byte. `special_found` finds the
-/// same piece, but tests many other bytes first.
+/// Returns the piece at a special byte that is found at once. It is the token at `<` with no backslash after it, at
+/// `[`, at `]` and at `![`, and that of a run of backquotes. It is plain text at `!` with no `[` after it, at `.`
+/// with no `.` after it, at `-` with no `-` after it and at a backslash with no ASCII punctuation after it. Outside a
+/// row, it is the escape at a backslash before ASCII punctuation other than a backquote. At `*`, `_`, `~` and `^` it
+/// is the piece of the run, but a `_` between two ASCII letters or digits of the content is plain text. Returns
+/// `None` at any other byte. `special_found` finds the same piece, but tests many other bytes first.
 #[inline(always)]
-#[tactic(auto, using(crate::proofs::QuickPieces::less_ready, crate::proofs::QuickPieces::left_ready, crate::proofs::QuickPieces::right_ready, crate::proofs::QuickPieces::exclamation_ready, crate::proofs::QuickPieces::stop_ready, crate::proofs::QuickPieces::hyphen_ready, crate::proofs::QuickPieces::backslash_ready, crate::proofs::QuickPieces::delimiter_ready, crate::proofs::InsideWords::inside_word_ready))]
+#[tactic(auto, using(crate::proofs::QuickPieces::less_ready, crate::proofs::QuickPieces::left_ready, crate::proofs::QuickPieces::right_ready, crate::proofs::QuickPieces::image_ready, crate::proofs::QuickPieces::exclamation_ready, crate::proofs::QuickPieces::stop_ready, crate::proofs::QuickPieces::hyphen_ready, crate::proofs::QuickPieces::backslash_ready, crate::proofs::QuickPieces::escape_ready, crate::proofs::QuickPieces::backquote_ready, crate::proofs::QuickPieces::delimiter_ready, crate::proofs::InsideWords::inside_word_ready))]
 pub(crate) fn quick_piece(text: &[u8], content: Content<'_>, at: usize) -> Option<Piece>
     requires utf8 { IsUtf8 content.whole.now }
     requires front { text.now ≡ take (length text.now) content.whole.now }
     requires within { at < length text.now }
     requires order { content.start ≤ at }
-    ensures some { is_some result ≡ (is_bracket_at text.now at || (is_plain_mark_at text.now at
-        || is_delimiter (slice_index text.now at))) }
+    ensures some { is_some result ≡ is_quick_at content.entry.row text.now at }
     ensures value { IfSome result (λ piece. (b : MathBraces)
         → IsReadyAt (content_in text.now content.entry b) at piece) }
     ensures fits { IfSome result (λ piece. at + size piece ≤ length text.now) }
@@ -109,10 +109,13 @@ pub(crate) fn quick_piece(text: &[u8], content: Content<'_>, at: usize) -> Optio
         b'<' if byte_at(text, at + 1) != b'\\' => Some(Piece::Token(0, 1, ItemBody::MaybeHtml)),
         b'[' => Some(Piece::Token(0, 1, ItemBody::MaybeLinkOpen)),
         b']' => Some(Piece::Token(0, 1, ItemBody::MaybeLinkClose(true))),
-        b'!' if byte_at(text, at + 1) != b'[' => Some(Piece::Left(1)),
+        b'!' if byte_at(text, at + 1) == b'[' => Some(Piece::Token(0, 2, ItemBody::MaybeImage)),
+        b'!' => Some(Piece::Left(1)),
         b'.' if byte_at(text, at + 1) != b'.' => Some(Piece::Left(1)),
         b'-' if byte_at(text, at + 1) != b'-' => Some(Piece::Left(1)),
         b'\\' if !byte_at(text, at + 1).is_ascii_punctuation() => Some(Piece::Left(1)),
+        b'\\' if !content.row && byte_at(text, at + 1) != b'`' => Some(Piece::Begins(1, true)),
+        b'`' => Some(backquote_piece(text, at)),
         b'_' if is_inside_word(text, content.start, at) => Some(Piece::Left(1)),
         b'*' | b'_' | b'~' | b'^' => Some(delimiter_piece(text, content, at)),
         _ => None,
@@ -424,8 +427,8 @@ pub(crate) fn run_len(text: &[u8], at: usize) -> usize
     rest_of(text, at).iter().take_while(|b| **b == byte).count()
 }
 
-// The byte at an offset; 0 past the end.
-fn byte_at(text: &[u8], at: usize) -> u8
+/// Returns the byte at an offset, or 0 past the end.
+pub(crate) fn byte_at(text: &[u8], at: usize) -> u8
     ensures { result ≡ slice_index text.now at }
 {
     if at < text.len() { text[at] } else { 0 }

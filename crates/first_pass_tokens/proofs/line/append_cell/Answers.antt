@@ -1,4 +1,4 @@
-use Rattle.std.proofs.Common.{◌-◌, arith}
+use Rattle.std.proofs.Common.{arith}
 use Rattle.first_pass_tokens.specs.Pieces.{source}
 use Rattle.first_pass_tokens.specs.LineTokens.{blanks_at_end}
 use Rattle.first_pass_tokens.specs.TreeTokens.{AppendsCell}

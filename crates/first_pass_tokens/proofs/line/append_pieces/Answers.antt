@@ -1,8 +1,8 @@
 use Rattle.std.proofs.Common.{◌+◌, length, refl, sym, ◌∙◌, ap, arith}
-use Rattle.std.proofs.lemmas.Bool.{or_parts}
 use Rattle.first_pass_tokens.specs.Pieces.{Inline, content_in, size}
 use Rattle.first_pass_tokens.specs.LineTokens.{spot}
-use Rattle.first_pass_tokens.proofs.SoFar.{IsRead, plain_run, read_start, read_upto, read_more, read_piece, read_all, found_special, ended_by_text}
+use Rattle.first_pass_tokens.proofs.SoFar.{IsRead, near_pipes, read_start, read_upto, read_more, read_piece, read_all, found_special, ended_by_text}
+use Rattle.first_pass_tokens.proofs.QuickPieces.{no_delimiter}
 use Rattle.first_pass_tokens.proofs.NamedTexts.{more_none, more_both}
 use Rattle.first_pass_tokens.proofs.RunPlaces.{front_upto}
 use Rattle.first_pass_walk.proofs.WalkFacts.{spares_words}
@@ -61,11 +61,12 @@ pub loop-at-preserved-then-text-at-eq124 : goal.loop-at-preserved-then-text-at-e
 loop-at-preserved-then-text-at-eq124 c =
     let z : Inline = content_in c.args.text.now c.args.content c.args.braces.now in
     let at = c.in-Some.at in
-    let to = c.run_end-from.result in
-    let end = c.run_end-from.ensures in
+    let to = c.pipes_end-from.result in
+    let end = c.pipes_end-from.ensures in
     record {
       read = read_upto at to c.loop-at.braces (upto_special (goal.at.loop-at-preserved-then-text-at-eq124 c).In-Some) (omega (arith, end.some)) end.within
-          (plain_run z at to (sym (c.special_ends_at.ensures c.args.braces.now) ∙ c.if-special_ends_at.false) c.if-text-at-eq124.true end.value end.within);
+          (λ k low high. near_pipes z at (sym (c.special_ends_at.ensures c.args.braces.now) ∙ c.if-special_ends_at.false) c.if-text-at-eq124.true
+          k (omega (arith, end.within)) (end.pipes k low high));
       more = c.loop-at.invariant.more;
     }
 
@@ -83,7 +84,8 @@ pub special_found-found-requires-clause-front : goal.special_found-found-require
 special_found-found-requires-clause-front c = front_upto c.args.content.whole.now c.args.text.now c.args.content.«end» c.requires.front
 
 pub special_found-found-requires-clause-no_run : goal.special_found-found-requires-clause-no_run
-special_found-found-requires-clause-no_run c = (or_parts _ _ (or_parts _ _ (sym c.in_default-quick_piece.ensures.some)).1).1
+special_found-found-requires-clause-no_run c =
+    no_delimiter c.args.content.row c.args.text.now c.in-Some.at (sym c.in_default-quick_piece.ensures.some)
 
 pub next_special_in_words-requires : goal.next_special_in_words-requires
 next_special_in_words-requires c = spares_words c.args.content.options c.args.content.special.now c.requires.marks
