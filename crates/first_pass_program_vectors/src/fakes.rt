@@ -11,13 +11,13 @@ use std::io::{ErrorKind, Read, Write};
 use std::process::Abort;
 use std::test::Fail;
 
-/// A clock with given readings, which fails after them.
+// A clock with given readings, which fails after them.
 #[derive(Drop)]
-pub struct Told<'a> {
-    pub left: &'a [u128],
+struct Readings<'a> {
+    left: &'a [u128],
 }
 
-impl TimeSource for Told<'_> {
+impl TimeSource for Readings<'_> {
     ghost use Rattle.std.specs.Prelude.{Some};
 
     ghost readings = { λ clock. Some clock.left.now };
@@ -44,11 +44,31 @@ pub enum Odd {
     TakesNothing,
 }
 
-impl Odd {
-    // The greatest number of bytes that a read or write moves: `step`, unless it is the odd one.
-    fn most(self, is_odd: bool, step: usize) -> io::Result<usize> {
-        match self {
-            _ if !is_odd => Ok(step),
+/// The pace of a reader or a writer: it moves at most `step` bytes at a time, and is odd at the read or write with
+/// the number `odd_at`.
+#[derive(Clone, Copy)]
+pub struct Pace {
+    pub step: usize,
+    pub odd_at: usize,
+    pub odd: Odd,
+}
+
+impl Pace {
+    /// A pace that is never odd.
+    pub fn even(step: usize) -> Pace {
+        Pace::failing(step, 0)
+    }
+
+    /// A pace whose odd read or write fails.
+    pub fn failing(step: usize, odd_at: usize) -> Pace {
+        let odd = Odd::Fails;
+        Pace { step, odd_at, odd }
+    }
+
+    // The greatest number of bytes that the read or write with this number moves.
+    fn most(self, number: usize) -> io::Result<usize> {
+        match self.odd {
+            _ if number != self.odd_at => Ok(self.step),
             Odd::Fails => Err(io::Error::from(ErrorKind::Other)),
             Odd::IsShort => Ok(1),
             Odd::TakesNothing => Ok(0),
@@ -56,33 +76,18 @@ impl Odd {
     }
 }
 
-/// A reader that returns at most `step` bytes at a time, and is odd at the read with the number `odd_at`.
+// A reader of bytes in memory.
 #[derive(Drop)]
-pub struct FailingReader<'a> {
-    pub rest: &'a [u8],
-    pub step: usize,
-    pub odd_at: usize,
-    pub odd: Odd,
-    pub reads: usize,
-}
-
-impl FailingReader<'_> {
-    /// A reader whose odd read fails.
-    pub fn new(rest: &[u8], step: usize, odd_at: usize) -> FailingReader<'_> {
-        FailingReader {
-            rest,
-            step,
-            odd_at,
-            odd: Odd::Fails,
-            reads: 0,
-        }
-    }
+struct FailingReader<'a> {
+    rest: &'a [u8],
+    pace: Pace,
+    reads: usize,
 }
 
 impl Read for FailingReader<'_> {
     fn read(&mut self, buf: &mut [u8]) -> io::Result<usize> {
         self.reads = self.reads.saturating_add(1);
-        let most = self.odd.most(self.reads == self.odd_at, self.step)?;
+        let most = self.pace.most(self.reads)?;
         let count = self.rest.len().min(most).min(buf.len());
         let all: &[u8] = self.rest;
         buf[..count].copy_from_slice(&all[..count]);
@@ -91,33 +96,18 @@ impl Read for FailingReader<'_> {
     }
 }
 
-/// A writer that takes at most `step` bytes at a time, and is odd at the write with the number `odd_at`.
+// A writer into memory.
 #[derive(Drop)]
-pub struct FailingWriter {
-    pub bytes: Vec<u8>,
-    pub step: usize,
-    pub odd_at: usize,
-    pub odd: Odd,
-    pub writes: usize,
-}
-
-impl FailingWriter {
-    /// A writer whose odd write fails.
-    pub fn new(alloc: Global, step: usize, odd_at: usize) -> FailingWriter {
-        FailingWriter {
-            bytes: Vec::new(alloc),
-            step,
-            odd_at,
-            odd: Odd::Fails,
-            writes: 0,
-        }
-    }
+struct FailingWriter {
+    bytes: Vec<u8>,
+    pace: Pace,
+    writes: usize,
 }
 
 impl Write for FailingWriter {
     fn write(&mut self, buf: &[u8]) -> io::Result<usize> {
         self.writes = self.writes.saturating_add(1);
-        let most = self.odd.most(self.writes == self.odd_at, self.step)?;
+        let most = self.pace.most(self.writes)?;
         let count = buf.len().min(most);
         self.bytes.extend_from_slice(&buf[..count])?;
         Ok(count)
@@ -150,80 +140,179 @@ pub const BAD_OPTIONS: &[&[&str]] = &[
     &["0", "0"],
 ];
 
-/// A program that writes a report of a text.
+/// A program that writes a report of a text, or of the time that it takes.
 #[derive(Clone, Copy)]
-pub enum Program {
+pub enum Program<'a> {
     Blocks,
     Outline,
     Links,
     Tree,
+    /// With the readings of its clock.
+    Bench(&'a [u128]),
 }
 
-/// Runs the work of a program with these words. Fails if the allocation of the words fails.
-pub fn run(
-    alloc: Global,
-    program: Program,
-    words: &[&str],
-    reader: &mut FailingReader<'_>,
-    writer: &mut FailingWriter,
-) -> Result<Result<(), RunFault>, AllocError> {
-    let list = words_of(alloc, words)?;
+/// The words and the text of a run, and the paces of its reader and its writer.
+#[derive(Clone, Copy)]
+pub struct Given<'a> {
+    pub words: &'a [&'a str],
+    pub text: &'a [u8],
+    pub read: Pace,
+    pub write: Pace,
+}
+
+impl Given<'_> {
+    /// A run whose text is read three bytes at a time, and whose output is written twenty bytes at a time.
+    pub fn new<'a>(words: &'a [&'a str], text: &'a [u8]) -> Given<'a> {
+        Given {
+            words,
+            text,
+            read: Pace::even(3),
+            write: Pace::even(20),
+        }
+    }
+}
+
+/// What a run returned, and what it read and wrote.
+#[derive(Drop)]
+pub struct Ran {
+    pub fault: Option<RunFault>,
+    pub reads: usize,
+    pub writes: usize,
+    pub bytes: Vec<u8>,
+    /// The number of readings that are left to the clock.
+    pub readings: usize,
+}
+
+/// A run in numbers, beside the output that was expected.
+#[derive(Clone, Copy, Debug)]
+pub struct Told {
+    pub fault: Option<RunFault>,
+    pub reads: usize,
+    pub writes: usize,
+    /// The number of bytes that were written.
+    pub count: usize,
+    /// Whether the expected output begins with them.
+    pub is_beginning: bool,
+    pub readings: usize,
+}
+
+impl Told {
+    /// Whether the run ended with a fault before any byte was written, after this number of writes.
+    pub fn is_faulty(self, fault: RunFault, writes: usize) -> bool {
+        self.fault == Some(fault) && self.writes == writes && self.count == 0
+    }
+
+    /// Whether the run had no fault, and wrote the expected output, which has this number of bytes.
+    pub fn is_whole(self, count: usize) -> bool {
+        self.fault.is_none() && self.is_beginning && self.count == count
+    }
+}
+
+/// Runs the work of a program. Fails if the allocation of its words fails.
+pub fn run(alloc: Global, program: Program<'_>, given: Given<'_>) -> Result<Ran, AllocError> {
+    let list = words_of(alloc, given.words)?;
+    let mut input = FailingReader {
+        rest: given.text,
+        pace: given.read,
+        reads: 0,
+    };
+    let mut output = FailingWriter {
+        bytes: Vec::new(alloc),
+        pace: given.write,
+        writes: 0,
+    };
+    let mut clock = Readings { left: &[] };
+    if let Program::Bench(told) = program {
+        clock.left = told;
+    }
     let words = list.as_slice();
-    Ok(match program {
-        Program::Blocks => blocks_run(alloc, words, reader, writer),
-        Program::Outline => outline_run(alloc, words, reader, writer),
-        Program::Links => links_run(alloc, words, reader, writer),
-        Program::Tree => tree_run(alloc, words, reader, writer),
+    let answer = match program {
+        Program::Blocks => blocks_run(alloc, words, &mut input, &mut output),
+        Program::Outline => outline_run(alloc, words, &mut input, &mut output),
+        Program::Links => links_run(alloc, words, &mut input, &mut output),
+        Program::Tree => tree_run(alloc, words, &mut input, &mut output),
+        Program::Bench(_) => bench_run(&mut clock, alloc, words, &mut input, &mut output),
+    };
+    Ok(Ran {
+        fault: answer.err(),
+        reads: input.reads,
+        writes: output.writes,
+        bytes: output.bytes,
+        readings: clock.left.len(),
     })
 }
 
-/// Asserts the lines that a program writes for a text, which is read three bytes at a time.
+/// Runs the work of a program that is expected to write `whole`.
+pub fn tell(
+    alloc: Global,
+    program: Program<'_>,
+    given: Given<'_>,
+    whole: &[u8],
+) -> Result<Told, AllocError> {
+    let ran = run(alloc, program, given)?;
+    let bytes = ran.bytes.as_slice();
+    Ok(Told {
+        fault: ran.fault,
+        reads: ran.reads,
+        writes: ran.writes,
+        count: bytes.len(),
+        is_beginning: whole.starts_with(bytes),
+        readings: ran.readings,
+    })
+}
+
+// The lines that a program writes, or the message of its fault.
+fn lines_of(alloc: Global, program: Program<'_>, given: Given<'_>) -> Result<String, AllocError> {
+    let ran = run(alloc, program, given)?;
+    match ran.fault {
+        Some(fault) => String::from_str(alloc, fault.message()),
+        None => String::from_utf8_lossy(alloc, ran.bytes.as_slice()),
+    }
+}
+
+/// Asserts the lines that a program writes.
 pub fn assert_lines(
     rt: &(impl Abort + AllocGlobal),
-    program: Program,
-    words: &[&str],
-    text: &[u8],
+    program: Program<'_>,
+    given: Given<'_>,
     want: &str,
 ) -> Result<(), Fail> {
-    let mut input = FailingReader::new(text, 3, 0);
-    let mut sink = FailingWriter::new(rt.alloc(), 20, 0);
-    let answer = run(rt.alloc(), program, words, &mut input, &mut sink)?;
-    let lines = String::from_utf8_lossy(rt.alloc(), sink.bytes.as_slice())?;
-    assert!(rt;
-        answer == Ok(()) && lines.as_str() == want,
-        "{text:?}: {lines}"
-    );
+    let lines = lines_of(rt.alloc(), program, given)?;
+    let Given { words, text, .. } = given;
+    assert!(rt; lines.as_str() == want, "{words:?} {text:?}: {lines}");
     Ok(())
 }
 
-/// Asserts that a run ends with a fault before any byte is written. The first write would fail.
+/// Asserts that a run ends with a fault before any byte is written. The first write would fail. Returns the number of
+/// reads.
 pub fn assert_fault(
     rt: &(impl Abort + AllocGlobal),
-    program: Program,
-    words: &[&str],
-    input: &mut FailingReader<'_>,
+    program: Program<'_>,
+    given: Given<'_>,
     fault: RunFault,
-) -> Result<(), Fail> {
-    let mut sink = FailingWriter::new(rt.alloc(), usize::MAX, 1);
-    let answer = run(rt.alloc(), program, words, input, &mut sink)?;
-    assert!(rt; answer == Err(fault), "{words:?}: {fault:?}");
+) -> Result<usize, Fail> {
+    let mut given = given;
+    given.write = Pace::failing(usize::MAX, 1);
+    let told = tell(rt.alloc(), program, given, b"")?;
     let writes = usize::from(fault == RunFault::WriteFailed);
+    let words = given.words;
     assert!(rt;
-        sink.writes == writes && sink.bytes.is_empty(),
-        "{words:?}: {fault:?}"
+        told.is_faulty(fault, writes),
+        "{words:?}: {fault:?}, {told:?}"
     );
-    Ok(())
+    Ok(told.reads)
 }
 
 /// Asserts that a program refuses bad options before it reads or writes.
 pub fn assert_bad_options_come_first(
     rt: &(impl Abort + AllocGlobal),
-    program: Program,
+    program: Program<'_>,
 ) -> Result<(), Fail> {
     for words in BAD_OPTIONS {
-        let mut input = FailingReader::new(b"\xff", usize::MAX, 1);
-        assert_fault(rt, program, words, &mut input, RunFault::BadOptions)?;
-        assert!(rt; input.reads == 0, "{words:?}");
+        let mut given = Given::new(words, b"\xff");
+        given.read = Pace::failing(usize::MAX, 1);
+        let reads = assert_fault(rt, program, given, RunFault::BadOptions)?;
+        assert!(rt; reads == 0, "{words:?}");
     }
     Ok(())
 }
@@ -231,70 +320,58 @@ pub fn assert_bad_options_come_first(
 /// Asserts that a program refuses bytes that are not UTF-8 before it writes.
 pub fn assert_not_utf8(
     rt: &(impl Abort + AllocGlobal),
-    program: Program,
+    program: Program<'_>,
     bad: &[&[u8]],
 ) -> Result<(), Fail> {
     for bytes in bad {
-        let mut input = FailingReader::new(bytes, 1, 0);
-        assert_fault(rt, program, &[], &mut input, RunFault::NotUtf8)?;
+        let mut given = Given::new(&[], bytes);
+        given.read = Pace::even(1);
+        assert_fault(rt, program, given, RunFault::NotUtf8)?;
     }
     Ok(())
 }
 
-// Makes each write in turn odd in a run without options, until no write is. Writes have at most `step` bytes. Returns
-// the number of writes.
+// Makes each write in turn odd, until no write is.
 fn odd_at_each_write(
     rt: &(impl Abort + AllocGlobal),
-    program: Program,
-    text: &[u8],
-    step: usize,
+    program: Program<'_>,
+    given: Given<'_>,
+    whole: &[u8],
     odd: Odd,
-) -> Result<usize, Fail> {
-    let mut whole = FailingWriter::new(rt.alloc(), step, 0);
-    let mut input = FailingReader::new(text, usize::MAX, 0);
-    let answer = run(rt.alloc(), program, &[], &mut input, &mut whole)?;
-    assert!(rt; answer == Ok(()));
+) -> Result<(), Fail> {
+    let mut given = given;
+    let step = given.write.step;
     for odd_at in 1..100 {
-        let mut sink = FailingWriter::new(rt.alloc(), step, odd_at);
-        sink.odd = odd;
-        let mut input = FailingReader::new(text, usize::MAX, 0);
-        let answer = run(rt.alloc(), program, &[], &mut input, &mut sink)?;
-        if sink.writes < odd_at || odd == Odd::IsShort {
-            assert!(rt; answer == Ok(()), "write {odd_at}");
-            assert!(rt; sink.bytes.as_slice() == whole.bytes.as_slice());
+        given.write = Pace { step, odd_at, odd };
+        let told = tell(rt.alloc(), program, given, whole)?;
+        let is_past = told.writes < odd_at;
+        let is_right = if is_past || odd == Odd::IsShort {
+            told.is_whole(whole.len())
         } else {
-            assert!(rt; answer == Err(RunFault::WriteFailed), "write {odd_at}");
-            assert!(rt; sink.writes == odd_at && sink.bytes.len() < whole.bytes.len());
-            assert!(rt; whole.bytes.as_slice().starts_with(sink.bytes.as_slice()));
-        }
-        if sink.writes < odd_at {
+            told.fault == Some(RunFault::WriteFailed)
+                && told.writes == odd_at
+                && told.is_beginning
+                && told.count < whole.len()
+        };
+        assert!(rt; is_right, "write {odd_at}, {odd:?}: {told:?}");
+        if is_past {
             break;
         }
     }
-    Ok(whole.writes)
+    Ok(())
 }
 
-/// Makes each write in turn odd, in each way, in a run without options. Writes have at most `step` bytes. To flush the
-/// writer would fail, and no program does. Returns the number of writes.
+/// Makes each write in turn odd, in each way. To flush the writer would fail, and no program does. Returns the number
+/// of writes.
 pub fn fail_each_write(
     rt: &(impl Abort + AllocGlobal),
-    program: Program,
-    text: &[u8],
-    step: usize,
+    program: Program<'_>,
+    given: Given<'_>,
 ) -> Result<usize, Fail> {
-    odd_at_each_write(rt, program, text, step, Odd::IsShort)?;
-    odd_at_each_write(rt, program, text, step, Odd::TakesNothing)?;
-    odd_at_each_write(rt, program, text, step, Odd::Fails)
-}
-
-/// Runs the work of `bench` with these words. Fails if the allocation of the words fails.
-pub fn time(
-    alloc: Global,
-    words: &[&str],
-    clock: &mut Told<'_>,
-    reader: &mut FailingReader<'_>,
-    writer: &mut FailingWriter,
-) -> Result<Result<(), RunFault>, AllocError> {
-    let list = words_of(alloc, words)?;
-    Ok(bench_run(clock, alloc, list.as_slice(), reader, writer))
+    let whole = run(rt.alloc(), program, given)?;
+    assert!(rt; whole.fault.is_none());
+    for odd in [Odd::IsShort, Odd::TakesNothing, Odd::Fails] {
+        odd_at_each_write(rt, program, given, whole.bytes.as_slice(), odd)?;
+    }
+    Ok(whole.writes)
 }

@@ -1,7 +1,7 @@
 //! The lines that `outline` writes, and each fault of its run.
 
 use crate::fakes::{
-    FailingReader, Program, assert_bad_options_come_first, assert_fault, assert_lines,
+    Given, Pace, Program, assert_bad_options_come_first, assert_fault, assert_lines,
     assert_not_utf8, fail_each_write,
 };
 use first_pass_host::fault::RunFault;
@@ -29,39 +29,27 @@ fn headings_are_listed(rt: HostRuntime) -> Result<(), Fail> {
         ),
     ];
     for (words, text, want) in cases {
-        assert_lines(&rt, Program::Outline, words, text, want)?;
+        assert_lines(&rt, Program::Outline, Given::new(words, text), want)?;
     }
     Ok(())
-}
-
-#[test]
-fn bad_options_come_first(rt: HostRuntime) -> Result<(), Fail> {
-    assert_bad_options_come_first(&rt, Program::Outline)
-}
-
-#[test]
-fn input_is_utf8(rt: HostRuntime) -> Result<(), Fail> {
-    let bad: &[&[u8]] = &[b"\xff# a", b"# a\n\xc3\n# b", b"# a\xc3"];
-    assert_not_utf8(&rt, Program::Outline, bad)
 }
 
 // Three reads return the text, five bytes at a time, and a fourth finds its end.
 #[test]
 fn each_read_fails_in_turn(rt: HostRuntime) -> Result<(), Fail> {
-    for fails_at in 1..5 {
-        let mut input = FailingReader::new(TEXT, 5, fails_at);
-        assert_fault(&rt, Program::Outline, &[], &mut input, RunFault::ReadFailed)?;
-        assert!(rt; input.reads == fails_at);
+    let mut given = Given::new(&[], TEXT);
+    for fails_at in 1..6 {
+        given.read = Pace::failing(5, fails_at);
+        // The fifth read is not made, so the lines are written.
+        let (fault, wanted) = if fails_at == 5 {
+            (RunFault::WriteFailed, 4)
+        } else {
+            (RunFault::ReadFailed, fails_at)
+        };
+        let reads = assert_fault(&rt, Program::Outline, given, fault)?;
+        assert_eq!(rt; reads, wanted);
     }
-    // No read fails, so the lines are written.
-    let mut input = FailingReader::new(TEXT, 5, 5);
-    assert_fault(
-        &rt,
-        Program::Outline,
-        &[],
-        &mut input,
-        RunFault::WriteFailed,
-    )
+    Ok(())
 }
 
 // The lines of 2,000 headings are written in four pieces.
@@ -71,9 +59,9 @@ fn each_write_is_odd_in_turn(rt: HostRuntime) -> Result<(), Fail> {
     for _ in 0..2000 {
         text.extend_from_slice(b"# a\n")?;
     }
-    assert_eq!(rt;
-        fail_each_write(&rt, Program::Outline, text.as_slice(), WHOLE)?,
-        4
-    );
+    let mut given = Given::new(&[], text.as_slice());
+    given.read = Pace::even(WHOLE);
+    given.write = Pace::even(WHOLE);
+    assert_eq!(rt; fail_each_write(&rt, Program::Outline, given)?, 4);
     Ok(())
 }

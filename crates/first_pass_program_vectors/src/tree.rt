@@ -1,38 +1,37 @@
 //! The output of `tree` for texts, and each fault of its run.
 
-use crate::fakes::{FailingReader, Program, assert_fault, assert_lines};
+use crate::fakes::{Given, Pace, Program, assert_fault, assert_lines};
 use first_pass_host::fault::RunFault;
 use std::test::Fail;
 
-// An info string with a quotation mark, a backslash, a control character and a character that is not ASCII.
-#[test]
-fn texts_are_escaped(rt: HostRuntime) -> Result<(), Fail> {
-    let want = "{\"kind\":\"Root\",\"depth\":0,\"start\":0,\"end\":16}\n\
+// Words, a text and its lines.
+const TEXTS: &[(&[&str], &str, &str)] = &[
+    // An info string with a quotation mark, a backslash, a control character and a character that is not ASCII.
+    (
+        &[],
+        "> ~~~ \"\\\\\u{1}é\n> a",
+        "{\"kind\":\"Root\",\"depth\":0,\"start\":0,\"end\":16}\n\
         {\"kind\":\"BlockQuote\",\"depth\":1,\"start\":0,\"end\":16,\"quote\":null}\n\
         {\"kind\":\"FencedCodeBlock\",\"depth\":2,\"start\":2,\"end\":16,\"info\":\"\\\"\\\\\\u0001é\"}\n\
-        {\"kind\":\"Text\",\"depth\":3,\"start\":15,\"end\":16,\"escaped\":false}\n";
-    let text = "> ~~~ \"\\\\\u{1}é\n> a";
-    assert_lines(&rt, Program::Tree, &[], text.as_bytes(), want)
-}
-
-#[test]
-fn a_heading_without_attributes_has_their_members(rt: HostRuntime) -> Result<(), Fail> {
-    let want = "{\"kind\":\"Root\",\"depth\":0,\"start\":0,\"end\":31}\n\
+        {\"kind\":\"Text\",\"depth\":3,\"start\":15,\"end\":16,\"escaped\":false}\n",
+    ),
+    // A heading without attributes, and one with them.
+    (
+        &["64"],
+        "# a\n## b {#x .c .d k=v\" nn}\n   ",
+        "{\"kind\":\"Root\",\"depth\":0,\"start\":0,\"end\":31}\n\
         {\"kind\":\"Heading\",\"depth\":1,\"start\":0,\"end\":4,\"level\":1,\
         \"id\":null,\"classes\":[],\"attributes\":[]}\n\
         {\"kind\":\"Text\",\"depth\":2,\"start\":2,\"end\":3,\"escaped\":false}\n\
         {\"kind\":\"Heading\",\"depth\":1,\"start\":4,\"end\":28,\"level\":2,\
         \"id\":\"x\",\"classes\":[\"c\",\"d\"],\"attributes\":[[\"k\",\"v\\\"\"],[\"nn\",null]]}\n\
-        {\"kind\":\"Text\",\"depth\":2,\"start\":7,\"end\":8,\"escaped\":false}\n";
-    let text = b"# a\n## b {#x .c .d k=v\" nn}\n   ";
-    assert_lines(&rt, Program::Tree, &["64"], text, want)
-}
-
-// Two definitions that `blocks` prints in the same way, and a footnote after them.
-#[test]
-fn definitions_and_footnotes_come_last(rt: HostRuntime) -> Result<(), Fail> {
-    let text = b"[a]: </b \"x\">\n[b]: /b \"x\"\n\n[^F]: - c\n";
-    let want = "{\"kind\":\"Root\",\"depth\":0,\"start\":0,\"end\":37}\n\
+        {\"kind\":\"Text\",\"depth\":2,\"start\":7,\"end\":8,\"escaped\":false}\n",
+    ),
+    // Two definitions that `blocks` prints in the same way, and a footnote after them.
+    (
+        &["4"],
+        "[a]: </b \"x\">\n[b]: /b \"x\"\n\n[^F]: - c\n",
+        "{\"kind\":\"Root\",\"depth\":0,\"start\":0,\"end\":37}\n\
         {\"kind\":\"FootnoteDefinition\",\"depth\":1,\"start\":27,\"end\":37,\"label\":\"F\"}\n\
         {\"kind\":\"List\",\"depth\":2,\"start\":33,\"end\":37,\"tight\":true,\"byte\":\"-\",\"number\":0}\n\
         {\"kind\":\"ListItem\",\"depth\":3,\"start\":33,\"end\":37,\"columns\":2}\n\
@@ -40,8 +39,17 @@ fn definitions_and_footnotes_come_last(rt: HostRuntime) -> Result<(), Fail> {
         {\"kind\":\"Text\",\"depth\":5,\"start\":35,\"end\":36,\"escaped\":false}\n\
         {\"definition\":\"a\",\"destination\":\"/b \\\"x\\\"\",\"title\":null,\"start\":0,\"end\":13}\n\
         {\"definition\":\"b\",\"destination\":\"/b\",\"title\":\"x\",\"start\":14,\"end\":25}\n\
-        {\"footnote\":\"F\"}\n";
-    assert_lines(&rt, Program::Tree, &["4"], text, want)
+        {\"footnote\":\"F\"}\n",
+    ),
+];
+
+#[test]
+fn nodes_are_written_as_json(rt: HostRuntime) -> Result<(), Fail> {
+    for (words, text, want) in TEXTS {
+        let given = Given::new(words, text.as_bytes());
+        assert_lines(&rt, Program::Tree, given, want)?;
+    }
+    Ok(())
 }
 
 #[test]
@@ -53,8 +61,9 @@ fn each_fault_of_a_run(rt: HostRuntime) -> Result<(), Fail> {
         (&["0"], b"a", 0, RunFault::WriteFailed),
     ];
     for (words, text, fails_at, fault) in faults {
-        let mut input = FailingReader::new(text, usize::MAX, *fails_at);
-        assert_fault(&rt, Program::Tree, words, &mut input, *fault)?;
+        let mut given = Given::new(words, text);
+        given.read = Pace::failing(usize::MAX, *fails_at);
+        assert_fault(&rt, Program::Tree, given, *fault)?;
     }
     Ok(())
 }
