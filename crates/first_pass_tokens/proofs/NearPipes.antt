@@ -1,14 +1,16 @@
--- The bytes near pipes that end no cell.
-use Rattle.std.proofs.Common.{◌≡◌, ℕ, ◌+◌, ◌<◌, ◌≤◌, ◌==◌, true, List, length, inl, inr, sym, ◌∙◌, arith, slice_index}
-use Rattle.std.proofs.lemmas.Bool.{cases_lt, or_left, or_right, and_from}
-use Rattle.std.proofs.lemmas.List.{get_or_past}
-use Rattle.first_pass_items.specs.Bytes.{pipe}
-use Rattle.first_pass_tokens.specs.LineTokens.{is_word_or_hyphen, is_near_pipe}
-
--- a pipe is in the text
-pub pipe_within : (text : List ℕ) (at : ℕ) → slice_index text at ≡ pipe → at < length text
-pipe_within text at here =
-    elim (cases_lt at (length text)) [ inl within ↦ within | inr past ↦ absurd (omega (arith, sym (get_or_past text at 0 past) ∙ here)) ]
+-- A pipe that ends no cell is plain text, and so is a letter, digit or hyphen before it.
+use Rattle.std.proofs.Common.{◌≡◌, ℕ, ◌+◌, ◌<◌, ◌≤◌, ◌==◌, true, false, List, length, refl, inl, inr, ap, arith, slice_index, eqb-true}
+use Rattle.std.specs.Char.{is_ascii_alphanumeric}
+use Rattle.std.proofs.lemmas.Bool.{cases_lt, lt-leb, and_from, and_parts, or_cases, or_from, or_parts, or_left, or_right, cond_both}
+use Rattle.std.proofs.lemmas.Bool.Decides.{nat_tests}
+use Rattle.first_pass_items.specs.Bytes.{hyphen, pipe}
+use Rattle.first_pass_walk.specs.Walk.{is_special}
+use Rattle.first_pass_tokens.specs.declared.pieces.Piece.TheVariants.{Left}
+use Rattle.first_pass_tokens.specs.declared.pieces.TokenStart.TheVariants.{Ready}
+use Rattle.first_pass_tokens.specs.Pieces.{Inline, found_at, special_found, special_piece, bracket_piece}
+use Rattle.first_pass_tokens.specs.LineTokens.{content_ends_at, is_word_or_hyphen, is_near_pipe}
+use Rattle.first_pass_tokens.proofs.QuickPieces.{hyphen_ready}
+use Rattle.first_pass_tokens.proofs.SoFar.{IsPlain}
 
 -- a letter, digit or hyphen before a pipe, and that pipe
 pub near_two : (text : List ℕ) (at : ℕ) → is_word_or_hyphen (slice_index text at) ≡ true → (slice_index text (at + 1) == pipe) ≡ true
@@ -17,4 +19,53 @@ near_two text at here next k low high =
     elim (cases_lt at k) [
       | inl later ↦ let same : k ≡ at + 1 = omega arith in rw same (or_left _ _ next)
       | inr first ↦ let same : k ≡ at = omega arith in rw same (or_right _ _ (and_from _ _ here next))
+    ]
+
+-- a pipe that ends no cell is a piece by itself
+pipe_piece : (z : Inline) (at : ℕ) → slice_index z.text at ≡ pipe → found_at z at ≡ Ready (Left 1)
+unfolding found_at special_found special_piece bracket_piece
+pipe_piece z at is = grind (arith, cond_both)
+
+-- a hyphen that no other follows is a piece by itself
+hyphen_piece : (z : Inline) (at : ℕ) → at < length z.text → slice_index z.text at ≡ hyphen → (slice_index z.text (at + 1) == hyphen) ≡ false
+    → found_at z at ≡ Ready (Left 1)
+unfolding found_at
+hyphen_piece z at within here other =
+    cond_both (is_special z.options (slice_index z.text at)) (special_found z at) (Ready (Left 1)) (λ f. f ≡ Ready (Left 1))
+    (λ h. hyphen_ready z at within here other) (λ h. refl)
+
+-- a letter or digit is not special
+word_plain : (z : Inline) (at : ℕ) → is_ascii_alphanumeric (slice_index z.text at) ≡ true → is_special z.options (slice_index z.text at) ≡ false
+unfolding is_special
+word_plain z at h = grind (arith, nat_tests, h)
+
+-- no content ends at a hyphen
+hyphen_inside : (z : Inline) (at : ℕ) → at < length z.text → slice_index z.text at ≡ hyphen → content_ends_at z at ≡ false
+unfolding content_ends_at
+hyphen_inside z at within here = grind (arith, nat_tests, within, here)
+
+-- nor at a pipe, if it does not end at another one
+pipe_inside : (z : Inline) (at k : ℕ) → content_ends_at z at ≡ false → slice_index z.text at ≡ pipe → k < length z.text → slice_index z.text k ≡ pipe
+    → content_ends_at z k ≡ false
+unfolding content_ends_at
+pipe_inside z at k on is within here = grind (arith, or_parts, or_from, lt-leb)
+
+-- a letter, digit or hyphen before a pipe is plain text
+before_pipe : (z : Inline) (at : ℕ) → at < length z.text → is_word_or_hyphen (slice_index z.text at) ≡ true
+    → (slice_index z.text (at + 1) == pipe) ≡ true → IsPlain z at
+before_pipe z at within word next =
+    elim (or_cases (is_ascii_alphanumeric (slice_index z.text at)) _ word) [
+      | inl letter ↦ inl (word_plain z at letter)
+      | inr dash ↦
+          let here = eqb-true _ _ dash in
+          inr (hyphen_inside z at within here, hyphen_piece z at within here (ap (λ b. b == hyphen) (eqb-true _ _ next)))
+    ]
+
+-- the bytes near pipes are plain text, if no cell ends at a pipe
+pub near_pipes : (z : Inline) (at : ℕ) → content_ends_at z at ≡ false → slice_index z.text at ≡ pipe
+    → (k : ℕ) → k < length z.text → is_near_pipe z.text k ≡ true → IsPlain z k
+near_pipes z at on is k within near =
+    elim (or_cases (slice_index z.text k == pipe) _ near) [
+      | inl pipe_here ↦ let here = eqb-true _ _ pipe_here in inr (pipe_inside z at k on is within here, pipe_piece z k here)
+      | inr later ↦ let (word, next) = and_parts (is_word_or_hyphen (slice_index z.text k)) _ later in before_pipe z k within word next
     ]

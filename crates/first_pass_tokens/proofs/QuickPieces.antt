@@ -1,5 +1,5 @@
 -- The pieces that `quick_piece` finds at once.
-use Rattle.std.proofs.Common.{◌≡◌, ℕ, ◌+◌, ◌<◌, ◌==◌, Bool, false, true, List, length, refl, sym, ap, arith, slice_index}
+use Rattle.std.proofs.Common.{◌≡◌, ℕ, ◌+◌, ◌<◌, ◌==◌, ◌&&◌, not, Bool, false, true, List, length, refl, sym, ap, arith, slice_index}
 use Rattle.std.proofs.lemmas.Bool.{cases_lt, or_parts}
 use Rattle.std.proofs.lemmas.Bool.Decides.{nat_tests}
 use Rattle.std.specs.Char.{is_ascii_punctuation}
@@ -9,8 +9,8 @@ use Rattle.first_pass_items.specs.declared.item.ItemBody.TheVariants.{MaybeHtml,
 use Rattle.first_pass_tokens.specs.declared.pieces.Piece.TheVariants.{Token, Left, Begins}
 use Rattle.first_pass_tokens.specs.declared.pieces.Piece.{Piece}
 use Rattle.first_pass_tokens.specs.declared.pieces.TokenStart.TheVariants.{Ready}
-use Rattle.first_pass_tokens.specs.Pieces.{Inline, is_delimiter, delimiter_piece, special_found, special_piece, backslash_piece, backslash_piece_in, backquote_piece}
-use Rattle.first_pass_tokens.specs.Pieces.{bracket_piece, dot_piece, dash_found, dash_piece, run_at, is_quick_at, IsReadyAt}
+use Rattle.first_pass_tokens.specs.Pieces.{Inline, is_delimiter, delimiter_piece, special_found, special_piece, backslash_piece, backslash_piece_in}
+use Rattle.first_pass_tokens.specs.Pieces.{backquote_piece, bracket_piece, dot_piece, dash_found, dash_piece, run_at, is_quote, is_bracket_at, is_quick_at, IsReadyAt}
 use Rattle.first_pass_walk.proofs.WalkFacts.{isnt}
 use Rattle.first_pass_tokens.proofs.PieceFacts.{run_some, run_same}
 
@@ -84,6 +84,22 @@ delimiter_ready z at piece h is =
     rw (no ampersand refl, no hyphen refl, no dollar_sign refl, no left_brace refl, no right_brace refl, no backslash refl, no backquote refl, h)
     (ap Ready (sym is))
 
--- no run of delimiters is left for `special_found`
-pub no_delimiter : (row : Bool) (text : List ℕ) (at : ℕ) → is_quick_at row text at ≡ false → is_delimiter (slice_index text at) ≡ false
-no_delimiter row text at none = (or_parts (is_delimiter (slice_index text at)) _ none).0
+bracket_left : (text : List ℕ) (at : ℕ) → is_bracket_at text at ≡ false → bracket_piece text at ≡ Left 1
+unfolding bracket_piece
+bracket_left text at none =
+    let b = slice_index text at in
+    let next = slice_index text (at + 1) in
+    let less = or_parts (b == less_than && not (next == backslash)) _ none in
+    let image = or_parts (b == exclamation_mark && next == left_bracket) _ less.1 in
+    let link = or_parts (b == left_bracket) (b == right_bracket) image.1 in
+    rw (less.0, image.0, link.0, link.1) refl
+
+-- where `quick_piece` finds none, each byte but a backslash, a quote and a full stop is plain text
+pub other_plain : (z : Inline) (at : ℕ) → is_quick_at z.row z.text at ≡ false → (slice_index z.text at == backslash) ≡ false
+    → is_quote (slice_index z.text at) ≡ false → (slice_index z.text at == full_stop) ≡ false → special_piece z at ≡ Left 1
+unfolding special_piece
+other_plain z at none first quote stop =
+    let run = or_parts (is_delimiter (slice_index z.text at)) _ none in
+    let code = or_parts (slice_index z.text at == backquote) _ run.1 in
+    let bracket = or_parts (is_bracket_at z.text at) _ code.1 in
+    rw (first, code.0, run.0, quote, stop) (bracket_left z.text at bracket.0)

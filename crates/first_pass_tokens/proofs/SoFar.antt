@@ -1,15 +1,14 @@
 -- The part of a content that is read, and the tokens appended for it.
 use Rattle.std.proofs.Common.{ℕ, zero, suc, ◌≡◌, ◌⊎◌, ◌+◌, ◌-◌, ◌≤◌, ◌<◌, ◌==◌, min, Bool, true, false, List, [], ◌∷◌, ◌++◌, length, slice_index}
-use Rattle.std.proofs.Common.{Option, Result, Ok, Err, OnOk, IfOk, refl, sym, ap, subst, ◌∙◌, inl, inr, arith, le-leb, eqb-true}
+use Rattle.std.proofs.Common.{Option, Result, Ok, Err, OnOk, IfOk, refl, sym, ap, subst, ◌∙◌, inl, inr, arith, le-leb}
 use Rattle.std.specs.declared.alloc.AllocError.{AllocError}
 use Rattle.std.proofs.lemmas.Bool.Decides.{nat_tests}
-use Rattle.std.proofs.lemmas.Bool.{cases_lt, lt-leb, and_parts, or_cases, or_from, or_parts, or_left, cond_both, cond-true, cond-false}
+use Rattle.std.proofs.lemmas.Bool.{cases_lt, or_left, cond_both, cond-true, cond-false}
 use Rattle.first_pass_items.specs.declared.cow_str.CowStr.{CowStr}
 use Rattle.first_pass_tokens.specs.Braces.{MathBraces, braces_after}
 use Rattle.first_pass_items.specs.declared.item.Item.{Item}
 use Rattle.first_pass_tree.specs.Forest.{Forest, with_text}
-use Rattle.std.specs.Char.{is_ascii_alphanumeric}
-use Rattle.first_pass_items.specs.Bytes.{backslash, hyphen, pipe}
+use Rattle.first_pass_items.specs.Bytes.{backslash}
 use Rattle.first_pass_lines.specs.Lines.{is_white}
 use Rattle.first_pass_walk.specs.Walk.{is_special}
 use Rattle.first_pass_tokens.specs.declared.line.HeldText.{HeldText}
@@ -19,13 +18,12 @@ use Rattle.first_pass_tokens.specs.Chains.{token, run_tokens, add_token, add_tok
 use Rattle.first_pass_tokens.specs.declared.pieces.TokenStart.{TokenStart}
 use Rattle.first_pass_tokens.specs.declared.pieces.TokenStart.TheVariants.{Ready}
 use Rattle.first_pass_tokens.specs.NamedTexts.{MakesPiece, AreMore}
-use Rattle.first_pass_tokens.specs.Pieces.{Inline, found_at, special_found, special_piece, bracket_piece, size}
-use Rattle.first_pass_tokens.specs.LineTokens.{Spot, spot, content_ends_at, is_word_or_hyphen, is_near_pipe, ArePieces, add_piece, add_pieces, text_end, breaks_by_backslash}
+use Rattle.first_pass_tokens.specs.Pieces.{Inline, found_at, special_found, size}
+use Rattle.first_pass_tokens.specs.LineTokens.{Spot, spot, content_ends_at, ArePieces, add_piece, add_pieces, text_end, breaks_by_backslash}
 use Rattle.first_pass_tokens.specs.LineTokens.{backslashes_at_end, blanks_at_end, line_end_len, line_break, IsCell}
 use Rattle.first_pass_tokens.specs.TreeTokens.{with_tokens, AppendsLine, AppendsCell}
 use Rattle.first_pass_tokens.specs.HeldText.{held_after, tree_after, IsHeldTo}
 use Rattle.first_pass_tokens.proofs.PieceFacts.{IsPieceAt, IsMark, mark_facts, piece_fits, markup_plain}
-use Rattle.first_pass_tokens.proofs.QuickPieces.{hyphen_ready}
 use Rattle.first_pass_tokens.proofs.ChainLemmas.{add_text-none, add_text-joined, with_tokens-text, with_tokens-add, with_tokens-adds, with_token-plain}
 use Rattle.first_pass_tokens.proofs.NamedTexts.{pieces_more}
 use Rattle.first_pass_tokens.proofs.LineLemmas.{are_more, add_pieces_more, end_bounded, break_some, piece_of}
@@ -58,24 +56,6 @@ chain_after at (Begins dropped escaped) p chain = add_text p.begin at p.escaped 
 chain_after at (Token dropped n body) p chain = add_token (add_text p.begin at p.escaped chain) (token (at + dropped) n body)
 chain_after at (Run n opens closes) p chain = add_tokens (add_text p.begin at p.escaped chain) (run_tokens at n opens closes)
 
--- a pipe that ends no cell is a piece by itself
-pipe_piece : (z : Inline) (at : ℕ) → slice_index z.text at ≡ pipe → found_at z at ≡ Ready (Left 1)
-unfolding found_at special_found special_piece bracket_piece
-pipe_piece z at is = grind (arith, cond_both)
-
--- a hyphen that no other follows is a piece by itself
-hyphen_piece : (z : Inline) (at : ℕ) → at < length z.text → slice_index z.text at ≡ hyphen → (slice_index z.text (at + 1) == hyphen) ≡ false
-    → found_at z at ≡ Ready (Left 1)
-unfolding found_at
-hyphen_piece z at within here other =
-    cond_both (is_special z.options (slice_index z.text at)) (special_found z at) (Ready (Left 1)) (λ f. f ≡ Ready (Left 1))
-    (λ h. hyphen_ready z at within here other) (λ h. refl)
-
--- a letter or digit is not special
-word_plain : (z : Inline) (at : ℕ) → is_ascii_alphanumeric (slice_index z.text at) ≡ true → is_special z.options (slice_index z.text at) ≡ false
-unfolding is_special
-word_plain z at h = grind (arith, nat_tests, h)
-
 -- plain text at a place: its byte is not special, or it is a piece by itself and the content does not end there
 abbrev pub IsPlain : Inline → ℕ → Type 0
 IsPlain z k = (is_special z.options (slice_index z.text k) ≡ false) ⊎ ((content_ends_at z k ≡ false) × (found_at z k ≡ Ready (Left 1)))
@@ -85,37 +65,6 @@ single_piece : (z : Inline) (at : ℕ) → at < length z.text → IsPlain z at �
 unfolding content_ends_at found_at is_special
 single_piece z at within (inl plain) = (grind (arith, nat_tests, within, plain), cond-false _ _ _ plain)
 single_piece z at within (inr is) = is
-
--- no content ends at a hyphen
-hyphen_inside : (z : Inline) (at : ℕ) → at < length z.text → slice_index z.text at ≡ hyphen → content_ends_at z at ≡ false
-unfolding content_ends_at
-hyphen_inside z at within here = grind (arith, nat_tests, within, here)
-
--- nor at a pipe, if it does not end at another one
-pipe_inside : (z : Inline) (at k : ℕ) → content_ends_at z at ≡ false → slice_index z.text at ≡ pipe → k < length z.text → slice_index z.text k ≡ pipe
-    → content_ends_at z k ≡ false
-unfolding content_ends_at
-pipe_inside z at k on is within here = grind (arith, or_parts, or_from, lt-leb)
-
--- a letter, digit or hyphen before a pipe is plain text
-short_cell : (z : Inline) (at : ℕ) → at < length z.text → is_word_or_hyphen (slice_index z.text at) ≡ true
-    → (slice_index z.text (at + 1) == pipe) ≡ true → IsPlain z at
-short_cell z at within word next =
-    elim (or_cases (is_ascii_alphanumeric (slice_index z.text at)) _ word) [
-      | inl letter ↦ inl (word_plain z at letter)
-      | inr dash ↦
-          let here = eqb-true _ _ dash in
-          inr (hyphen_inside z at within here, hyphen_piece z at within here (ap (λ b. b == hyphen) (eqb-true _ _ next)))
-    ]
-
--- the bytes near pipes are plain text, if no cell ends at a pipe
-pub near_pipes : (z : Inline) (at : ℕ) → content_ends_at z at ≡ false → slice_index z.text at ≡ pipe
-    → (k : ℕ) → k < length z.text → is_near_pipe z.text k ≡ true → IsPlain z k
-near_pipes z at on is k within near =
-    elim (or_cases (slice_index z.text k == pipe) _ near) [
-      | inl pipe_here ↦ let here = eqb-true _ _ pipe_here in inr (pipe_inside z at k on is within here, pipe_piece z k here)
-      | inr later ↦ let (word, next) = and_parts (is_word_or_hyphen (slice_index z.text k)) _ later in short_cell z k within word next
-    ]
 
 -- the piece found at a special byte
 pub found_special : (z : Inline) (at : ℕ) → is_special z.options (slice_index z.text at) ≡ true → special_found z at ≡ found_at z at

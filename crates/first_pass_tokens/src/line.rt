@@ -9,7 +9,7 @@ ghost use Rattle.first_pass_walk.specs.Walk.{MarksSpecial, is_marked};
 ghost use Rattle.first_pass_tree.specs.Forest.{with_text};
 ghost use Rattle.first_pass_tokens.specs.Braces.{MathBraces};
 ghost use Rattle.first_pass_tokens.specs.NamedTexts.{AreMore};
-ghost use Rattle.first_pass_tokens.specs.Pieces.{source, content_in, text_upto, run_at, size};
+ghost use Rattle.first_pass_tokens.specs.Pieces.{source, content_in, text_upto, size};
 ghost use Rattle.first_pass_tokens.specs.LineTokens.{spot, is_near_pipe, line_end_len, text_end, break_of, line_break, content_ends_at, EndsAtFirstMark, EndsLine, EndsCell, IsCell};
 ghost use Rattle.first_pass_tokens.specs.TreeTokens.{with_tokens, AppendsLine, AppendsCell};
 ghost use Rattle.first_pass_tokens.specs.Chains.{run_tokens, add_text};
@@ -17,12 +17,12 @@ ghost use Rattle.first_pass_tokens.specs.HeldText.{held_after, tree_after, IsHel
 
 use crate::braces::BraceContexts;
 use crate::named::named_piece;
-use crate::pieces::{Content, Piece, byte_at, piece_len, quick_piece, run_len, special_found};
+use crate::pieces::{Content, Piece, byte_at, piece_len, quick_piece, special_found};
 use bitflags::Flags;
 use first_pass_items::cow_str::CowStr;
 use first_pass_items::item::{Item, ItemBody};
 use first_pass_items::option_set::Options;
-use first_pass_lines::lines::{is_line_end, is_white};
+use first_pass_lines::lines::is_white;
 use first_pass_tree::forest::Tree;
 use first_pass_walk::walk::next_special_in_words;
 use std::alloc::AllocError;
@@ -199,7 +199,7 @@ fn append_pieces(
         if special_ends_at(text, content, at) {
             return Ok((at, pending));
         }
-        // A pipe that ends no cell is plain text, and others are often near it.
+        // A pipe that ends no cell is plain text, and others are often close after it. They are passed over with it.
         if text[at] == b'|' {
             from = pipes_end(text, at);
             continue;
@@ -215,8 +215,7 @@ fn append_pieces(
     Ok((text.len(), pending))
 }
 
-// The end of the last of the pipes from a place on, if there is at most one byte between two of them: a letter, a
-// digit or a hyphen.
+// The end of the pipes that begin at `at`. Between two of them is at most one letter, digit or hyphen.
 #[inline(never)]
 fn pipes_end(text: &[u8], at: usize) -> usize
     requires within { at < length text.now }
@@ -228,10 +227,10 @@ fn pipes_end(text: &[u8], at: usize) -> usize
     let mut end = at + 1;
     loop {
         let byte = byte_at(text, end);
-        let is_cell = byte.is_ascii_alphanumeric() | (byte == b'-');
+        let is_word_or_hyphen = byte.is_ascii_alphanumeric() | (byte == b'-');
         if byte == b'|' {
             end += 1;
-        } else if is_cell && byte_at(text, end + 1) == b'|' {
+        } else if is_word_or_hyphen && byte_at(text, end + 1) == b'|' {
             end += 2;
         } else {
             return end;

@@ -3,7 +3,7 @@
 ghost use Rattle.std.specs.Prelude.{◌≡◌, ◌||◌, ◌+◌, ◌<◌, ◌≤◌, ◌^◌, true, false, IfSome, is_some, length, slice_index, take, ℕ, List, IsCharBoundary, IsUtf8};
 ghost use Rattle.first_pass_items.specs.Bytes.{backslash, backquote, hyphen, full_stop, underscore};
 ghost use Rattle.first_pass_tokens.specs.Braces.{MathBraces};
-ghost use Rattle.first_pass_tokens.specs.Pieces.{content_in, IsReadyAt, is_quick_at, is_inside_word, is_solid_at, dollar_found, special_found, reference_found, dash_found, found_size, FoundSolid, special_piece, backslash_piece, backslash_piece_in, backquote_piece, is_delimiter, char_before, run_in, run_size, is_quote, quote_piece, dot_piece, run_piece, delimiter_piece, bracket_piece, run_at, size, EndsSolid};
+ghost use Rattle.first_pass_tokens.specs.Pieces.{content_in, IsReadyAt, is_quick_at, is_inside_word, is_solid_at, dollar_found, special_found, reference_found, dash_found, found_size, FoundSolid, special_piece, backslash_piece, backslash_piece_in, backquote_piece, is_delimiter, char_before, run_in, run_size, is_quote, quote_piece, dot_piece, run_piece, delimiter_piece, run_at, size, EndsSolid};
 
 use first_pass_entities::entity::scan_reference;
 use first_pass_flank::flank::{DelimiterRun, ends_with_pipe, first_char, last_char};
@@ -60,10 +60,10 @@ pub enum TokenStart {
     CloseBrace,
 }
 
-/// Returns the piece found at a special byte of a content that begins no run of delimiters; `quick_piece` finds those.
-/// It is a reference (CommonMark 2.5), four or more hyphens with smart punctuation, a dollar sign or a brace with
-/// math, or a piece that needs nothing else (see `special_piece`). `at` is the offset of the byte into the whole text,
-/// and `text` is that text up to the end of the content.
+/// Returns the piece found at a special byte of a content where `quick_piece` finds none. It is a reference
+/// (CommonMark 2.5), four or more hyphens with smart punctuation, a dollar sign or a brace with math, or a piece that
+/// needs nothing else (see `special_piece`). `at` is the offset of the byte into the whole text, and `text` is that
+/// text up to the end of the content.
 #[inline(always)]
 #[tactic(auto, unfolding(crate::specs::Pieces::special_found))]
 pub(crate) fn special_found(text: &[u8], content: Content<'_>, at: usize) -> TokenStart
@@ -71,7 +71,7 @@ pub(crate) fn special_found(text: &[u8], content: Content<'_>, at: usize) -> Tok
     requires front { text.now ≡ take (length text.now) content.whole.now }
     requires within { at < length text.now }
     requires order { content.start ≤ at }
-    requires no_run { is_delimiter (slice_index text.now at) ≡ false }
+    requires none { is_quick_at content.row text.now at ≡ false }
     ensures value { (b : MathBraces) → result ≡ special_found (content_in text.now content.entry b) at }
     ensures fits { at + found_size result ≤ length text.now }
     ensures ends { FoundSolid text.now at result }
@@ -90,8 +90,8 @@ pub(crate) fn special_found(text: &[u8], content: Content<'_>, at: usize) -> Tok
 /// `[`, at `]` and at `![`, and that of a run of backquotes. It is plain text at `!` with no `[` after it, at `.`
 /// with no `.` after it, at `-` with no `-` after it and at a backslash with no ASCII punctuation after it. Outside a
 /// row, it is the escape at a backslash before ASCII punctuation other than a backquote. At `*`, `_`, `~` and `^` it
-/// is the piece of the run, but a `_` between two ASCII letters or digits of the content is plain text. Returns
-/// `None` at any other byte. `special_found` finds the same piece, but tests many other bytes first.
+/// is the piece of the run, but a `_` between two ASCII letters or digits of the content is plain text. Each piece is
+/// the one that the definition `special_found` gives. Returns `None` at any other byte.
 #[inline(always)]
 #[tactic(auto, using(crate::proofs::QuickPieces::less_ready, crate::proofs::QuickPieces::left_ready, crate::proofs::QuickPieces::right_ready, crate::proofs::QuickPieces::image_ready, crate::proofs::QuickPieces::exclamation_ready, crate::proofs::QuickPieces::stop_ready, crate::proofs::QuickPieces::hyphen_ready, crate::proofs::QuickPieces::backslash_ready, crate::proofs::QuickPieces::escape_ready, crate::proofs::QuickPieces::backquote_ready, crate::proofs::QuickPieces::delimiter_ready, crate::proofs::InsideWords::inside_word_ready))]
 pub(crate) fn quick_piece(text: &[u8], content: Content<'_>, at: usize) -> Option<Piece>
@@ -185,12 +185,11 @@ fn dash_found(text: &[u8], at: usize) -> TokenStart
     }
 }
 
-// The piece at any other special byte of a content. `at` is its offset into the text `whole`, and `text` is that text
-// up to the end of the content. A run of backquotes is a token of possible code (CommonMark 6.1). `<` with no
-// backslash after it is one of possible HTML or an autolink (6.5, 6.6). `[`, `]` and `![` are tokens of possible links
-// and images (6.3, 6.4). With smart punctuation, a quote is a token, and three full stops are a token of one
-// character. A backslash before backquotes or other ASCII punctuation is dropped (2.4). In a table row, a backslash
-// before a pipe is dropped, and so are two of them (GFM 4.10). Any other byte is plain text.
+// The piece at any other special byte of a content where `quick_piece` finds none. `at` is its offset into the text
+// `whole`, and `text` is that text up to the end of the content. With smart punctuation, a quote is a token, and three
+// full stops are a token of one character. A backslash before backquotes or other ASCII punctuation is dropped
+// (CommonMark 2.4). In a table row, a backslash before a pipe is dropped, and so are two of them (GFM 4.10). Any other
+// byte is plain text.
 #[inline(always)]
 #[tactic(auto, unfolding(crate::specs::Pieces::special_piece))]
 fn special_piece(text: &[u8], content: Content<'_>, at: usize) -> Piece
@@ -198,17 +197,16 @@ fn special_piece(text: &[u8], content: Content<'_>, at: usize) -> Piece
     requires front { text.now ≡ take (length text.now) content.whole.now }
     requires within { at < length text.now }
     requires order { content.start ≤ at }
-    requires no_run { is_delimiter (slice_index text.now at) ≡ false }
+    requires none { is_quick_at content.row text.now at ≡ false }
     ensures value { (b : MathBraces) → result ≡ special_piece (content_in text.now content.entry b) at }
     ensures fits { at + size result ≤ length text.now }
     ensures ends { EndsSolid text.now at result }
 {
     match text[at] {
         b'\\' => backslash_piece_in(text, at, content.row),
-        b'`' => backquote_piece(text, at),
         b'"' | b'\'' => quote_piece(text, content, at),
         b'.' => dot_piece(text, at),
-        _ => bracket_piece(text, at),
+        _ => Piece::Left(1),
     }
 }
 
@@ -398,26 +396,9 @@ fn char_before(content: Content<'_>, at: usize) -> Option<char>
     }
 }
 
-// The piece at a byte that may open or close a link, an image or HTML.
-#[tactic(auto, unfolding(crate::specs::Pieces::bracket_piece))]
-fn bracket_piece(text: &[u8], at: usize) -> Piece
-    requires { at < length text.now }
-    ensures value { result ≡ bracket_piece text.now at }
-    ensures fits { at + size result ≤ length text.now }
-    ensures ends { EndsSolid text.now at result }
-{
-    match text[at] {
-        b'<' if byte_at(text, at + 1) != b'\\' => Piece::Token(0, 1, ItemBody::MaybeHtml),
-        b'!' if byte_at(text, at + 1) == b'[' => Piece::Token(0, 2, ItemBody::MaybeImage),
-        b'[' => Piece::Token(0, 1, ItemBody::MaybeLinkOpen),
-        b']' => Piece::Token(0, 1, ItemBody::MaybeLinkClose(true)),
-        _ => Piece::Left(1),
-    }
-}
-
 // The length of the run of equal bytes at an offset.
 #[tactic(auto, unfolding(crate::specs::Pieces::run_at))]
-pub(crate) fn run_len(text: &[u8], at: usize) -> usize
+fn run_len(text: &[u8], at: usize) -> usize
     requires { at < length text.now }
     ensures value { result ≡ run_at text.now at }
     ensures some { 0 < result }

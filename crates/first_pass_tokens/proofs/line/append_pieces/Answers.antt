@@ -1,8 +1,8 @@
 use Rattle.std.proofs.Common.{◌+◌, length, refl, sym, ◌∙◌, ap, arith}
 use Rattle.first_pass_tokens.specs.Pieces.{Inline, content_in, size}
 use Rattle.first_pass_tokens.specs.LineTokens.{spot}
-use Rattle.first_pass_tokens.proofs.SoFar.{IsRead, near_pipes, read_start, read_upto, read_more, read_piece, read_all, found_special, ended_by_text}
-use Rattle.first_pass_tokens.proofs.QuickPieces.{no_delimiter}
+use Rattle.first_pass_tokens.proofs.SoFar.{IsRead, read_start, read_upto, read_more, read_piece, read_all, found_special, ended_by_text}
+use Rattle.first_pass_tokens.proofs.NearPipes.{near_pipes}
 use Rattle.first_pass_tokens.proofs.NamedTexts.{more_none, more_both}
 use Rattle.first_pass_tokens.proofs.RunPlaces.{front_upto}
 use Rattle.first_pass_walk.proofs.WalkFacts.{spares_words}
@@ -82,10 +82,6 @@ returns-clause-read c =
 
 pub special_found-found-requires-clause-front : goal.special_found-found-requires-clause-front
 special_found-found-requires-clause-front c = front_upto c.args.content.whole.now c.args.text.now c.args.content.«end» c.requires.front
-
-pub special_found-found-requires-clause-no_run : goal.special_found-found-requires-clause-no_run
-special_found-found-requires-clause-no_run c =
-    no_delimiter c.args.content.row c.args.text.now c.in-Some.at (sym c.in_default-quick_piece.ensures.some)
 
 pub next_special_in_words-requires : goal.next_special_in_words-requires
 next_special_in_words-requires c = spares_words c.args.content.options c.args.content.special.now c.requires.marks
