@@ -6,6 +6,8 @@ mod pieces;
 #[cfg(test)]
 mod ranges;
 #[cfg(test)]
+mod steps;
+#[cfg(test)]
 mod subtrees;
 #[cfg(test)]
 mod tree;
