@@ -1,5 +1,8 @@
 //! Each call of the pass that allocates, once without a failing allocation.
 
+ghost use Rattle.std.specs.Prelude.{◌≡◌, IsCharBoundary};
+ghost use Rattle.first_pass.specs.Views.{source_text};
+
 use bitflags::Flags;
 use first_pass::below::{Item, ItemBody, TreeIndex};
 use first_pass::flank::TableParseMode;
@@ -7,12 +10,187 @@ use first_pass::pass::{
     FirstPass, HtmlEnd, count_header_cols, run_first_pass, surgerize_tight_list,
 };
 use first_pass_items::option_set::Options;
-use first_pass_lines::lines::scan_atx_heading;
+use first_pass_lines::lines::{scan_atx_heading, scan_blank_line};
+use first_pass_lines::places::rest_of;
 use first_pass_scan::leaf_scan::scan_code_fence;
 use std::alloc::{AllocError, Global};
 use std::test::Fail;
 
 const TEXT: &str = "# a\nb\\\nc";
+
+// A call that reads a block of a text, or a part of one, from a place on.
+#[derive(Clone, Copy)]
+enum Call {
+    Block,
+    Footnote,
+    Heading,
+    Paragraph,
+    Rule,
+    Fenced,
+    Indented,
+    Metadata,
+    Html(HtmlEnd),
+    Division,
+    // Up to the end of the text, after two columns.
+    CodeText,
+    HtmlLine,
+}
+
+// Makes a call, and returns where the pass reads on, or the length of a footnote definition's head.
+fn read(
+    pass: &mut FirstPass<'_>,
+    text: &str,
+    start: usize,
+    call: Call,
+) -> Result<Option<usize>, AllocError>
+    requires text { source_text pass.old ≡ text.now }
+    requires place { IsCharBoundary text.now start }
+{
+    let rest = rest_of(text.as_bytes(), start);
+    match call {
+        Call::Block if !rest.is_empty() => Ok(Some(pass.parse_block(start)?)),
+        Call::Footnote => pass.parse_footnote(start),
+        Call::Heading => match scan_atx_heading(rest) {
+            Some(level) => Ok(Some(pass.parse_atx_heading(start, level)?)),
+            None => Ok(None),
+        },
+        Call::Paragraph => Ok(Some(pass.parse_paragraph(start, None)?)),
+        Call::Rule => Ok(Some(pass.parse_hrule(rest.len(), start)?)),
+        _ => read_raw(pass, text, start, call),
+    }
+}
+
+// The same for code, metadata and HTML.
+fn read_raw(
+    pass: &mut FirstPass<'_>,
+    text: &str,
+    start: usize,
+    call: Call,
+) -> Result<Option<usize>, AllocError>
+    requires text { source_text pass.old ≡ text.now }
+    requires place { IsCharBoundary text.now start }
+{
+    let rest = rest_of(text.as_bytes(), start);
+    match call {
+        Call::Fenced => match scan_code_fence(rest) {
+            Some((count, byte)) => Ok(Some(pass.parse_fenced_code_block(start, 0, byte, count)?)),
+            None => Ok(None),
+        },
+        Call::Indented if scan_blank_line(rest).is_none() => {
+            Ok(Some(pass.parse_indented_code_block(start, 0)?))
+        }
+        Call::Metadata => Ok(Some(pass.parse_metadata_block(start, b'+')?)),
+        Call::Html(end) => Ok(Some(pass.parse_html_block_type_1_to_5(start, end, 0, 0)?)),
+        Call::Division => Ok(Some(pass.parse_html_block_type_6_or_7(start, 0, 0)?)),
+        Call::CodeText => {
+            pass.append_code_text(2, start, text.len())?;
+            Ok(None)
+        }
+        Call::HtmlLine => {
+            pass.append_html_line(0, start, text.len())?;
+            Ok(None)
+        }
+        _ => Ok(None),
+    }
+}
+
+// What a call on a new pass returns, and the number of nodes in the tree after it. Returns `None` and 0 if no character
+// begins at the place.
+fn made(
+    alloc: Global,
+    text: &str,
+    options: Options,
+    start: usize,
+    call: Call,
+) -> Result<(Option<usize>, usize), AllocError> {
+    let mut pass = FirstPass::new(alloc, text, options)?;
+    if !text.is_char_boundary(start) {
+        return Ok((None, 0));
+    }
+    let returned = read(&mut pass, text, start, call)?;
+    Ok((returned, pass.pass.state.tree.node_count()))
+}
+
+#[test]
+fn blocks_of_a_text(rt: HostRuntime) -> Result<(), Fail> {
+    for (text, start, call, returned, nodes) in [
+        (TEXT, 0, Call::Block, Some(4), 3),
+        (TEXT, 0, Call::Heading, Some(4), 3),
+        (TEXT, 4, Call::Paragraph, Some(8), 5),
+        ("***\n", 0, Call::Rule, Some(4), 2),
+        ("```x\na\n```\n", 0, Call::Fenced, Some(11), 3),
+        ("    a\n\n", 4, Call::Indented, Some(7), 3),
+        ("+++\na\n+++\n", 0, Call::Metadata, Some(10), 3),
+        (
+            "<!-- a\n-->\nb",
+            0,
+            Call::Html(HtmlEnd::Text("-->")),
+            Some(11),
+            4,
+        ),
+        (
+            "<pre>\n</STYLE>\na",
+            0,
+            Call::Html(HtmlEnd::AnyRawTag),
+            Some(15),
+            4,
+        ),
+        ("<div>\n\na", 0, Call::Division, Some(6), 3),
+        ("a\r\n", 0, Call::CodeText, None, 4),
+        ("a\r\n", 0, Call::HtmlLine, None, 3),
+    ] {
+        let came = made(rt.alloc(), text, Options::empty(), start, call)?;
+        assert!(rt; came == (returned, nodes), "{text}");
+    }
+    Ok(())
+}
+
+#[test]
+fn heads_of_footnotes(rt: HostRuntime) -> Result<(), Fail> {
+    for (text, options, returned, nodes) in [
+        ("[^a]: b", Options::ENABLE_FOOTNOTES, Some(6), 2),
+        ("[^a]: b", Options::ENABLE_OLD_FOOTNOTES, Some(5), 2),
+        ("[a]: b", Options::ENABLE_FOOTNOTES, None, 1),
+    ] {
+        let came = made(rt.alloc(), text, options, 0, Call::Footnote)?;
+        assert!(rt; came == (returned, nodes), "{text}");
+    }
+    Ok(())
+}
+
+// The labels of the footnotes that a text defines, in GitHub's form, each with its number of uses.
+fn footnote_labels(alloc: Global, text: &str) -> Result<String, AllocError> {
+    let (_tree, allocs) = run_first_pass(alloc, text, Options::ENABLE_FOOTNOTES)?;
+    let mut labels = String::new(alloc);
+    for (label, footnote) in allocs.footdefs().iter() {
+        write!(labels, "{} {}, ", label.label(), footnote.use_count)?;
+    }
+    Ok(labels)
+}
+
+// The number of uses of the footnote with a label, in GitHub's form.
+fn uses(alloc: Global, text: &str, label: &str) -> Result<Option<usize>, AllocError> {
+    let (_tree, allocs) = run_first_pass(alloc, text, Options::ENABLE_FOOTNOTES)?;
+    match allocs.footdefs().get(label)? {
+        Some(footnote) => Ok(Some(footnote.use_count)),
+        None => Ok(None),
+    }
+}
+
+#[test]
+fn footnotes_of_a_text(rt: HostRuntime) -> Result<(), Fail> {
+    for (text, want) in [
+        ("[^A]: > [^a]: c", "A 0, "),
+        ("> [^b]: > [^a]: c\n\n[^A]: d", "a 0, b 0, "),
+        ("[^A]: x\n\n[^a]: y", "A 0, "),
+    ] {
+        assert!(rt;
+            footnote_labels(rt.alloc(), text)?.as_str() == want,
+            "{text}"
+        );
+    }
+    Ok(())
+}
 
 // Whether a line that doesn't continue all containers interrupts a paragraph, for a pass that has read nothing.
 fn interrupts_lazily(alloc: Global, text: &str, line: &str) -> Result<bool, AllocError> {
@@ -29,63 +207,11 @@ fn bytes_before_rest(alloc: Global, text: &str) -> Result<Option<usize>, AllocEr
     }
 }
 
-// The end of the first block.
-fn block_end(alloc: Global) -> Result<usize, AllocError> {
-    let mut pass = FirstPass::new(alloc, TEXT, Options::empty())?;
-    pass.parse_block(0)
-}
-
-// The number of nodes in the tree after the first block.
-fn nodes_after_block(alloc: Global) -> Result<usize, AllocError> {
-    let mut pass = FirstPass::new(alloc, TEXT, Options::empty())?;
-    pass.parse_block(0)?;
-    Ok(pass.pass.state.tree.nodes().len())
-}
-
-// The number of bytes of the head of a footnote definition at the start of a one-line text.
-fn head_size(alloc: Global, text: &str, options: Options) -> Result<Option<usize>, AllocError> {
-    let mut pass = FirstPass::new(alloc, text, options)?;
-    pass.parse_footnote(0)
-}
-
-// The labels of the footnotes that a text defines, in GitHub's form.
-fn footnote_labels(alloc: Global, text: &str) -> Result<String, AllocError> {
-    let (_tree, allocs) = run_first_pass(alloc, text, Options::ENABLE_FOOTNOTES)?;
-    let mut labels = String::new(alloc);
-    for (label, _) in allocs.footdefs().iter() {
-        labels.push_str(label.label())?;
-        labels.push_str(", ")?;
-    }
-    Ok(labels)
-}
-
 #[test]
-fn footnotes_of_a_text(rt: HostRuntime) -> Result<(), Fail> {
-    let github = Options::ENABLE_FOOTNOTES;
-    assert_eq!(rt; head_size(rt.alloc(), "[^a]: b", github)?, Some(6));
-    assert_eq!(rt;
-        head_size(rt.alloc(), "[^a]: b", Options::ENABLE_OLD_FOOTNOTES)?,
-        Some(5)
-    );
-    assert_eq!(rt; head_size(rt.alloc(), "[a]: b", github)?, None);
-    assert!(rt; footnote_labels(rt.alloc(), "[^A]: > [^a]: c")?.as_str() == "A, ");
-    let nested = footnote_labels(rt.alloc(), "> [^b]: > [^a]: c\n\n[^A]: d")?;
-    assert!(rt; nested.as_str() == "a, b, ");
-    let (_tree, allocs) = run_first_pass(rt.alloc(), "[^A]: x\n\n[^a]: y", github)?;
-    assert_eq!(rt;
-        allocs.footdefs().get("a")?.ok_or("no footnote")?.use_count,
-        0
-    );
-    Ok(())
-}
-
-#[test]
-fn blocks_of_a_text(rt: HostRuntime) -> Result<(), Fail> {
+fn lines_after_others(rt: HostRuntime) -> Result<(), Fail> {
     assert!(rt; interrupts_lazily(rt.alloc(), TEXT, "2. b")?);
     assert_eq!(rt; bytes_before_rest(rt.alloc(), " \ta\n")?, Some(2));
     assert_eq!(rt; bytes_before_rest(rt.alloc(), "     \n")?, None);
-    assert_eq!(rt; block_end(rt.alloc())?, 4);
-    assert_eq!(rt; nodes_after_block(rt.alloc())?, 3);
     Ok(())
 }
 
@@ -107,38 +233,39 @@ fn calls_without_a_pass(rt: HostRuntime) -> Result<(), Fail> {
     Ok(())
 }
 
-fn heading_end(alloc: Global) -> Result<Option<usize>, AllocError> {
-    let mut pass = FirstPass::new(alloc, TEXT, Options::empty())?;
-    match scan_atx_heading(TEXT.as_bytes()) {
-        Some(level) => Ok(Some(pass.parse_atx_heading(0, level)?)),
-        None => Ok(None),
+// Where reading a line ends in a mode, and whether it returns a line break or a table. The line is read up to `end` at
+// most.
+fn line_read(
+    alloc: Global,
+    text: &str,
+    start: usize,
+    end: Option<usize>,
+    mode: TableParseMode,
+) -> Result<(usize, bool), AllocError> {
+    let mut pass = FirstPass::new(alloc, text, Options::ENABLE_TABLES)?;
+    let most = end.unwrap_or(text.len());
+    if most < start || text.len() < most {
+        return Ok((0, false));
     }
-}
-
-fn paragraph_end(alloc: Global) -> Result<usize, AllocError> {
-    let mut pass = FirstPass::new(alloc, TEXT, Options::empty())?;
-    pass.parse_paragraph(4, None)
-}
-
-// The end of a line of a paragraph, and whether it has a line break.
-fn line_end(alloc: Global) -> Result<(usize, bool), AllocError> {
-    let mut pass = FirstPass::new(alloc, TEXT, Options::empty())?;
-    let (next, line_break) = pass.parse_line(4, Some(8), TableParseMode::Disabled)?;
-    Ok((next, line_break.is_some()))
-}
-
-// Where reading a line with a pipe ends in a mode, and whether it returns a line break or a table.
-fn line_read(alloc: Global, mode: TableParseMode) -> Result<(usize, bool), AllocError> {
-    let mut pass = FirstPass::new(alloc, "a|b\n-|-\n", Options::ENABLE_TABLES)?;
-    let (next, item) = pass.parse_line(0, None, mode)?;
+    let (next, item) = pass.parse_line(start, end, mode)?;
     Ok((next, item.is_some()))
 }
 
 #[test]
 fn a_line_in_each_mode(rt: HostRuntime) -> Result<(), Fail> {
-    assert!(rt; line_read(rt.alloc(), TableParseMode::Disabled)? == (4, true));
-    assert!(rt; line_read(rt.alloc(), TableParseMode::Active)? == (1, false));
-    assert!(rt; line_read(rt.alloc(), TableParseMode::Scan)? == (8, true));
+    let table = "a|b\n-|-\n";
+    for (text, start, end, mode, want) in [
+        (TEXT, 4, Some(8), TableParseMode::Disabled, (7, true)),
+        (TEXT, 4, Some(5), TableParseMode::Disabled, (5, false)),
+        (table, 0, None, TableParseMode::Disabled, (4, true)),
+        (table, 0, None, TableParseMode::Active, (1, false)),
+        (table, 0, None, TableParseMode::Scan, (8, true)),
+    ] {
+        assert!(rt;
+            line_read(rt.alloc(), text, start, end, mode)? == want,
+            "{text} {end:?}"
+        );
+    }
     Ok(())
 }
 
@@ -155,11 +282,6 @@ fn ends_in_an_empty_item(alloc: Global) -> Result<(usize, usize), AllocError> {
     Ok((following, pass.parse_block(following)?))
 }
 
-fn rule_end(alloc: Global) -> Result<usize, AllocError> {
-    let mut pass = FirstPass::new(alloc, "***\n", Options::empty())?;
-    pass.parse_hrule(4, 0)
-}
-
 // The end of the content of a heading's text, and whether its attributes have the id `x`.
 fn content_end(alloc: Global, options: Options) -> Result<(usize, bool), AllocError> {
     let pass = FirstPass::new(alloc, "a {#x}\n", options)?;
@@ -171,76 +293,10 @@ fn content_end(alloc: Global, options: Options) -> Result<(usize, bool), AllocEr
 }
 
 #[test]
-fn content_of_a_heading(rt: HostRuntime) -> Result<(), Fail> {
+fn parts_of_a_text(rt: HostRuntime) -> Result<(), Fail> {
+    assert!(rt; ends_in_an_empty_item(rt.alloc())? == (6, 7));
     let with_attributes = Options::ENABLE_HEADING_ATTRIBUTES;
     assert!(rt; content_end(rt.alloc(), with_attributes)? == (2, true));
     assert!(rt; content_end(rt.alloc(), Options::empty())? == (6, false));
-    Ok(())
-}
-
-#[test]
-fn parts_of_a_text(rt: HostRuntime) -> Result<(), Fail> {
-    assert_eq!(rt; heading_end(rt.alloc())?, Some(4));
-    assert_eq!(rt; paragraph_end(rt.alloc())?, 8);
-    assert!(rt; line_end(rt.alloc())? == (7, true));
-    assert!(rt; ends_in_an_empty_item(rt.alloc())? == (6, 7));
-    assert_eq!(rt; rule_end(rt.alloc())?, 4);
-    Ok(())
-}
-
-fn fenced_end(alloc: Global) -> Result<Option<usize>, AllocError> {
-    let fence = "```x\na\n```\n";
-    let mut pass = FirstPass::new(alloc, fence, Options::empty())?;
-    match scan_code_fence(fence.as_bytes()) {
-        Some((count, byte)) => Ok(Some(pass.parse_fenced_code_block(0, 0, byte, count)?)),
-        None => Ok(None),
-    }
-}
-
-fn indented_end(alloc: Global) -> Result<usize, AllocError> {
-    let mut pass = FirstPass::new(alloc, "    a\n\n", Options::empty())?;
-    pass.parse_indented_code_block(4, 0)
-}
-
-fn metadata_end(alloc: Global) -> Result<usize, AllocError> {
-    let mut pass = FirstPass::new(alloc, "+++\na\n+++\n", Options::empty())?;
-    pass.parse_metadata_block(0, b'+')
-}
-
-fn comment_end(alloc: Global) -> Result<usize, AllocError> {
-    let mut pass = FirstPass::new(alloc, "<!-- a\n-->\nb", Options::empty())?;
-    pass.parse_html_block_type_1_to_5(0, HtmlEnd::Text("-->"), 0, 0)
-}
-
-fn preformatted_end(alloc: Global) -> Result<usize, AllocError> {
-    let mut pass = FirstPass::new(alloc, "<pre>\n</STYLE>\na", Options::empty())?;
-    pass.parse_html_block_type_1_to_5(0, HtmlEnd::AnyRawTag, 0, 0)
-}
-
-fn division_end(alloc: Global) -> Result<usize, AllocError> {
-    let mut pass = FirstPass::new(alloc, "<div>\n\na", Options::empty())?;
-    pass.parse_html_block_type_6_or_7(0, 0, 0)
-}
-
-fn append_code(alloc: Global) -> Result<(), AllocError> {
-    let mut pass = FirstPass::new(alloc, "a\r\n", Options::empty())?;
-    pass.append_code_text(2, 0, 3)
-}
-
-fn append_html(alloc: Global) -> Result<(), AllocError> {
-    let mut pass = FirstPass::new(alloc, "a\r\n", Options::empty())?;
-    pass.append_html_line(0, 0, 3)
-}
-
-#[test]
-fn raw_blocks(rt: HostRuntime) -> Result<(), Fail> {
-    assert_eq!(rt; fenced_end(rt.alloc())?, Some(11));
-    assert_eq!(rt; indented_end(rt.alloc())?, 7);
-    assert_eq!(rt; metadata_end(rt.alloc())?, 10);
-    assert_eq!(rt; comment_end(rt.alloc())?, 11);
-    assert_eq!(rt; preformatted_end(rt.alloc())?, 15);
-    assert_eq!(rt; division_end(rt.alloc())?, 6);
-    append_code(rt.alloc())?;
-    append_html(rt.alloc())?;
     Ok(())
 }
