@@ -29,13 +29,19 @@ pub fn read_case(alloc: Global, group: &str) -> Result<Case<'_>, AllocError> {
         text: String::with_capacity(alloc, group.len())?,
         wanted: String::with_capacity(alloc, group.len())?,
     };
-    for word in rest.split(' ') {
-        if !word.is_empty() {
-            case.words.push(String::from_str(alloc, word)?)?;
-        }
-    }
+    read_words(alloc, rest, &mut case.words)?;
     read_lines(below, &mut case)?;
     Ok(case)
+}
+
+// Reads the words after the name of the call.
+fn read_words(alloc: Global, words: &str, read: &mut Vec<String>) -> Result<(), AllocError> {
+    for word in words.split(' ') {
+        if !word.is_empty() {
+            read.push(String::from_str(alloc, word)?)?;
+        }
+    }
+    Ok(())
 }
 
 // The number in the first line, if it has one, and the lines after it.

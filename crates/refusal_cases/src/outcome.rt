@@ -36,6 +36,11 @@ impl Outcome {
         }
     }
 
+    /// Returns whether the calls so far returned what is expected, so that more are made.
+    pub fn is_good(self) -> bool {
+        matches!(self, Outcome::Usual | Outcome::Refused)
+    }
+
     /// Returns the word for it in the report.
     pub fn word(self) -> &'static str {
         match self {

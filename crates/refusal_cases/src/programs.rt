@@ -7,6 +7,8 @@ use first_pass_blocks::pass::run_first_pass;
 use first_pass_host::fault::RunFault;
 use first_pass_host::option_word::parse_options;
 use first_pass_host::words::words_of;
+use first_pass_items::item::Item;
+use first_pass_names::items::Allocations;
 use first_pass_printed::links::append_link;
 use first_pass_printed::node::append_node;
 use first_pass_program::run::{blocks_run, tree_run};
@@ -78,17 +80,27 @@ fn parse(alloc: Global, case: &Case<'_>) -> Result<Outcome, AllocError> {
     let Ok((tree, allocs)) = run_first_pass(alloc, case.text.as_str(), options) else {
         return Ok(Outcome::Refused);
     };
-    for node in tree.nodes() {
-        append_node(&mut lines, node.0, node.1, &allocs)?;
-    }
-    for (label, link) in allocs.refdefs().iter() {
-        append_link(&mut lines, label, link)?;
-    }
+    append_lines(&mut lines, tree.nodes(), &allocs)?;
     if lines.as_slice() == case.wanted.as_bytes() {
         Ok(Outcome::Usual)
     } else {
         Ok(Outcome::Differs)
     }
+}
+
+// Appends a line for each node and each link definition.
+fn append_lines(
+    lines: &mut Vec<u8>,
+    nodes: &[(usize, Item)],
+    allocs: &Allocations<'_>,
+) -> Result<(), AllocError> {
+    for node in nodes {
+        append_node(lines, node.0, node.1, allocs)?;
+    }
+    for (label, link) in allocs.refdefs().iter() {
+        append_link(lines, label, link)?;
+    }
+    Ok(())
 }
 
 // The words of this program.

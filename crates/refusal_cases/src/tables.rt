@@ -175,24 +175,41 @@ impl Entry {
     }
 }
 
-// Adds this number of entries to empty tables. A call that is refused is made again.
+// Adds this number of entries to empty tables.
 fn add_each(alloc: Global, entry: Entry, times: usize) -> Result<Outcome, AllocError> {
     let mut allocs = Allocations::new(alloc);
     let mut outcome = Outcome::Usual;
     for at in 0..times {
-        let word = WORDS.get(at).copied().unwrap_or("");
-        let mut added = entry.add(alloc, &mut allocs, at, word)?;
-        if added.is_err() {
-            outcome = outcome.refused(has(&allocs, entry.counts(at)));
-            if outcome != Outcome::Refused {
-                return Ok(outcome);
-            }
-            added = entry.add(alloc, &mut allocs, at, word)?;
+        outcome = add_one(alloc, entry, &mut allocs, at, outcome)?;
+        if !outcome.is_good() {
+            return Ok(outcome);
         }
-        let after = entry.counts(at.saturating_add(1));
-        if added != Ok(true) || !has(&allocs, after) {
-            return Ok(Outcome::Differs);
+    }
+    Ok(outcome)
+}
+
+// Adds the entry with this number to tables that have those before it. A call that is refused is made again. Returns
+// the outcome of all calls, from that of the earlier ones.
+fn add_one(
+    alloc: Global,
+    entry: Entry,
+    allocs: &mut Allocations<'_>,
+    at: usize,
+    earlier: Outcome,
+) -> Result<Outcome, AllocError> {
+    let word = WORDS.get(at).copied().unwrap_or("");
+    let mut outcome = earlier;
+    let mut added = entry.add(alloc, allocs, at, word)?;
+    if added.is_err() {
+        outcome = outcome.refused(has(allocs, entry.counts(at)));
+        if outcome != Outcome::Refused {
+            return Ok(outcome);
         }
+        added = entry.add(alloc, allocs, at, word)?;
+    }
+    let after = entry.counts(at.saturating_add(1));
+    if added != Ok(true) || !has(allocs, after) {
+        return Ok(Outcome::Differs);
     }
     Ok(outcome)
 }
@@ -258,17 +275,22 @@ fn get(alloc: Global) -> Result<Outcome, AllocError> {
     let mut allocs = Allocations::new(alloc);
     let long = "A Label Of More Than Twenty-Two Bytes";
     define(alloc, &mut allocs, long, "x")?;
-    let (found, outcome) = match finds(&allocs) {
+    Ok(get_from(&allocs, long))
+}
+
+// Finds the only definition, which has this label. A call that is refused is made again.
+fn get_from(allocs: &Allocations<'_>, label: &str) -> Outcome {
+    let (found, outcome) = match finds(allocs) {
         Ok(found) => (found, Outcome::Usual),
         Err(_) => {
-            if !has_only(&allocs, long) {
-                return Ok(Outcome::Changed);
+            if !has_only(allocs, label) {
+                return Outcome::Changed;
             }
-            match finds(&allocs) {
+            match finds(allocs) {
                 Ok(found) => (found, Outcome::Refused),
-                Err(_) => return Ok(Outcome::Differs),
+                Err(_) => return Outcome::Differs,
             }
         }
     };
-    Ok(if found { outcome } else { Outcome::Differs })
+    if found { outcome } else { Outcome::Differs }
 }

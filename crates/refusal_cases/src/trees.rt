@@ -169,7 +169,7 @@ impl Call {
     }
 }
 
-// Makes a call many times on one tree. One that is refused is made again.
+// Makes a call many times on one tree.
 fn make_each(alloc: Global, call: Call) -> Result<Outcome, AllocError> {
     let mut tree = call.first_tree(alloc)?;
     let mut seen = Seen::new(alloc)?;
@@ -180,18 +180,32 @@ fn make_each(alloc: Global, call: Call) -> Result<Outcome, AllocError> {
             tree.append(block(count))?;
         }
         seen.look(&tree)?;
-        if call.make(&mut tree, count).is_err() {
-            outcome = outcome.refused(seen.is_kept(&tree));
-            if outcome != Outcome::Refused {
-                return Ok(outcome);
-            }
-            if call.make(&mut tree, count).is_err() {
-                return Ok(Outcome::Differs);
-            }
-        }
-        if !call.has_made(&seen, &tree, count) {
-            return Ok(Outcome::Differs);
+        outcome = make_one(call, &mut tree, &seen, count, outcome);
+        if !outcome.is_good() {
+            return Ok(outcome);
         }
     }
     Ok(outcome)
+}
+
+// Makes the call with this number on a tree that was seen. One that is refused is made again. Returns the outcome of
+// all calls, from that of the earlier ones.
+fn make_one(
+    call: Call,
+    tree: &mut Tree<Item>,
+    seen: &Seen,
+    count: usize,
+    earlier: Outcome,
+) -> Outcome {
+    let mut outcome = earlier;
+    if call.make(tree, count).is_err() {
+        outcome = outcome.refused(seen.is_kept(tree));
+        if outcome == Outcome::Refused && call.make(tree, count).is_err() {
+            return Outcome::Differs;
+        }
+    }
+    if outcome.is_good() && !call.has_made(seen, tree, count) {
+        return Outcome::Differs;
+    }
+    outcome
 }

@@ -26,18 +26,21 @@ pub fn answer_definitions(call: &Call<'_>, answer: &mut Answer) -> Result<bool, 
 
 // The length in bytes of the definition that `definition_of` finds, with its label, destination and title.
 fn append_reference(call: &Call<'_>, answer: &mut Answer) -> Result<(), AllocError> {
-    match definition_of(call)? {
-        Some((size, label, definition)) => {
-            answer.number(size)?;
-            answer.text(label.label())?;
-            append_definition(&definition, answer)
-        }
+    match &definition_of(call)? {
+        Some((size, label, definition)) => append_definition(*size, label, definition, answer),
         None => answer.none(),
     }
 }
 
-// The destination of a definition, its title, and its span.
-fn append_definition(definition: &LinkDef<'_>, answer: &mut Answer) -> Result<(), AllocError> {
+// The length of a definition, its label, its destination, its title, and its span.
+fn append_definition(
+    size: usize,
+    label: &LabelKey<'_>,
+    definition: &LinkDef<'_>,
+    answer: &mut Answer,
+) -> Result<(), AllocError> {
+    answer.number(size)?;
+    answer.text(label.label())?;
     append_cow(&definition.dest, answer)?;
     match &definition.title {
         Some(title) => append_cow(title, answer)?,

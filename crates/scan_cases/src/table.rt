@@ -90,7 +90,7 @@ fn append_difference(report: &mut String, line: &str, came: &str) -> Result<(), 
     report.push('\n')
 }
 
-// Makes a call and appends its result. Returns `false` if no call has this name.
+// Makes the call of a case and appends its result. Returns `false` if no call has this name.
 fn ask(alloc: Global, case: &Case<'_>, answer: &mut Answer) -> Result<bool, AllocError> {
     let read = read_shown(alloc, case.shown)?;
     let call = Call {
@@ -99,22 +99,26 @@ fn ask(alloc: Global, case: &Case<'_>, answer: &mut Answer) -> Result<bool, Allo
         given: &case.given,
         text: read.as_str(),
     };
+    answer_call(&call, answer)
+}
+
+fn answer_call(call: &Call<'_>, answer: &mut Answer) -> Result<bool, AllocError> {
     Ok(
-        answer_lines(&call, answer)?
-            || answer_bytes(&call, answer)?
-            || answer_leaves(&call, answer)?
-            || answer_metadata(&call, answer)?
-            || answer_markers(&call, answer)?
-            || answer_rows(&call, answer)?
-            || answer_texts(&call, answer)?
-            || answer_tokens(&call, answer)?
-            || answer_programs(&call, answer)?
-            || answer_html(&call, answer)?
-            || answer_links(&call, answer)?
-            || answer_attributes(&call, answer)?
-            || answer_containers(&call, answer)?
-            || answer_definitions(&call, answer)?
-            || answer_walks(&call, answer)?
-            || answer_flanks(&call, answer)?,
+        answer_lines(call, answer)?
+            || answer_bytes(call, answer)?
+            || answer_leaves(call, answer)?
+            || answer_metadata(call, answer)?
+            || answer_markers(call, answer)?
+            || answer_rows(call, answer)?
+            || answer_texts(call, answer)?
+            || answer_tokens(call, answer)?
+            || answer_programs(call, answer)?
+            || answer_html(call, answer)?
+            || answer_links(call, answer)?
+            || answer_attributes(call, answer)?
+            || answer_containers(call, answer)?
+            || answer_definitions(call, answer)?
+            || answer_walks(call, answer)?
+            || answer_flanks(call, answer)?,
     )
 }
