@@ -36,7 +36,8 @@ enum Call {
     HtmlLine,
 }
 
-// Makes a call, and returns where the pass reads on, or the length of a footnote definition's head.
+// Makes a call, and returns where the pass reads on, or the length of a footnote definition's head. Returns `None` if
+// the call does not fit the text, and for `CodeText` and `HtmlLine`.
 fn read(
     pass: &mut FirstPass<'_>,
     text: &str,
@@ -47,55 +48,34 @@ fn read(
     requires place { IsCharBoundary text.now start }
 {
     let rest = rest_of(text.as_bytes(), start);
-    match call {
-        Call::Block if !rest.is_empty() => Ok(Some(pass.parse_block(start)?)),
-        Call::Footnote => pass.parse_footnote(start),
+    let next = match call {
+        Call::Block if !rest.is_empty() => pass.parse_block(start)?,
+        Call::Footnote => return pass.parse_footnote(start),
         Call::Heading => match scan_atx_heading(rest) {
-            Some(level) => Ok(Some(pass.parse_atx_heading(start, level)?)),
-            None => Ok(None),
+            Some(level) => pass.parse_atx_heading(start, level)?,
+            None => return Ok(None),
         },
-        Call::Paragraph => Ok(Some(pass.parse_paragraph(start, None)?)),
-        Call::Rule => Ok(Some(pass.parse_hrule(rest.len(), start)?)),
-        _ => read_raw(pass, text, start, call),
-    }
-}
-
-// The same for code, metadata and HTML.
-fn read_raw(
-    pass: &mut FirstPass<'_>,
-    text: &str,
-    start: usize,
-    call: Call,
-) -> Result<Option<usize>, AllocError>
-    requires text { source_text pass.old ≡ text.now }
-    requires place { IsCharBoundary text.now start }
-{
-    let rest = rest_of(text.as_bytes(), start);
-    match call {
+        Call::Paragraph => pass.parse_paragraph(start, None)?,
+        Call::Rule => pass.parse_hrule(rest.len(), start)?,
         Call::Fenced => match scan_code_fence(rest) {
-            Some((count, byte)) => Ok(Some(pass.parse_fenced_code_block(start, 0, byte, count)?)),
-            None => Ok(None),
+            Some((count, byte)) => pass.parse_fenced_code_block(start, 0, byte, count)?,
+            None => return Ok(None),
         },
         Call::Indented if scan_blank_line(rest).is_none() => {
-            Ok(Some(pass.parse_indented_code_block(start, 0)?))
+            pass.parse_indented_code_block(start, 0)?
         }
-        Call::Metadata => Ok(Some(pass.parse_metadata_block(start, b'+')?)),
-        Call::Html(end) => Ok(Some(pass.parse_html_block_type_1_to_5(start, end, 0, 0)?)),
-        Call::Division => Ok(Some(pass.parse_html_block_type_6_or_7(start, 0, 0)?)),
-        Call::CodeText => {
-            pass.append_code_text(2, start, text.len())?;
-            Ok(None)
-        }
-        Call::HtmlLine => {
-            pass.append_html_line(0, start, text.len())?;
-            Ok(None)
-        }
-        _ => Ok(None),
-    }
+        Call::Metadata => pass.parse_metadata_block(start, b'+')?,
+        Call::Html(end) => pass.parse_html_block_type_1_to_5(start, end, 0, 0)?,
+        Call::Division => pass.parse_html_block_type_6_or_7(start, 0, 0)?,
+        Call::CodeText => return pass.append_code_text(2, start, text.len()).map(|_| None),
+        Call::HtmlLine => return pass.append_html_line(0, start, text.len()).map(|_| None),
+        _ => return Ok(None),
+    };
+    Ok(Some(next))
 }
 
-// What a call on a new pass returns, and the number of nodes in the tree after it. Returns `None` and 0 if no character
-// begins at the place.
+// What a call on a new pass returns, and the number of nodes in the tree after it. Returns `None` and 0 if the
+// place is within a character.
 fn made(
     alloc: Global,
     text: &str,
@@ -140,7 +120,7 @@ fn blocks_of_a_text(rt: HostRuntime) -> Result<(), Fail> {
         ("a\r\n", 0, Call::HtmlLine, None, 3),
     ] {
         let came = made(rt.alloc(), text, Options::empty(), start, call)?;
-        assert!(rt; came == (returned, nodes), "{text}");
+        assert!(rt; came == (returned, nodes), "{text} from {start}: {came:?}");
     }
     Ok(())
 }
@@ -189,6 +169,7 @@ fn footnotes_of_a_text(rt: HostRuntime) -> Result<(), Fail> {
             "{text}"
         );
     }
+    assert_eq!(rt; uses(rt.alloc(), "[^A]: x\n\n[^a]: y", "a")?, Some(0));
     Ok(())
 }
 
@@ -234,15 +215,15 @@ fn calls_without_a_pass(rt: HostRuntime) -> Result<(), Fail> {
 }
 
 // Where reading a line ends in a mode, and whether it returns a line break or a table. The line is read up to `end` at
-// most.
+// most. The text comes with the options of the pass.
 fn line_read(
     alloc: Global,
-    text: &str,
+    (text, options): (&str, Options),
     start: usize,
     end: Option<usize>,
     mode: TableParseMode,
 ) -> Result<(usize, bool), AllocError> {
-    let mut pass = FirstPass::new(alloc, text, Options::ENABLE_TABLES)?;
+    let mut pass = FirstPass::new(alloc, text, options)?;
     let most = end.unwrap_or(text.len());
     if most < start || text.len() < most {
         return Ok((0, false));
@@ -253,17 +234,19 @@ fn line_read(
 
 #[test]
 fn a_line_in_each_mode(rt: HostRuntime) -> Result<(), Fail> {
-    let table = "a|b\n-|-\n";
-    for (text, start, end, mode, want) in [
-        (TEXT, 4, Some(8), TableParseMode::Disabled, (7, true)),
-        (TEXT, 4, Some(5), TableParseMode::Disabled, (5, false)),
+    let plain = (TEXT, Options::empty());
+    let table = ("a|b\n-|-\n", Options::ENABLE_TABLES);
+    for (source, start, end, mode, want) in [
+        (plain, 4, Some(8), TableParseMode::Disabled, (7, true)),
+        (plain, 4, Some(5), TableParseMode::Disabled, (5, false)),
         (table, 0, None, TableParseMode::Disabled, (4, true)),
         (table, 0, None, TableParseMode::Active, (1, false)),
         (table, 0, None, TableParseMode::Scan, (8, true)),
     ] {
         assert!(rt;
-            line_read(rt.alloc(), text, start, end, mode)? == want,
-            "{text} {end:?}"
+            line_read(rt.alloc(), source, start, end, mode)? == want,
+            "{0} {end:?}",
+            source.0
         );
     }
     Ok(())
