@@ -28,7 +28,7 @@ pub fn item(start: usize, end: usize, body: ItemBody) -> Item {
     Item { start, end, body }
 }
 
-/// Returns a text, escaped or not.
+/// Returns the body of a text, escaped or not.
 pub fn text(backslash_escaped: bool) -> ItemBody {
     ItemBody::Text { backslash_escaped }
 }

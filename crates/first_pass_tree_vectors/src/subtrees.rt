@@ -35,7 +35,7 @@ fn append_lists(tree: &mut Tree<Item>) -> Result<(), AllocError> {
     )
 }
 
-// Takes the inner list, and returns whether it is recorded once.
+// Takes the inner list, and returns whether it is recorded once, and whether both lists end with the last node.
 fn takes_the_inner_list(tree: &mut Tree<Item>) -> bool {
     let ends = 4 < tree.node_count()
         && tree.end_of(TreeIndex(3)) == 5
@@ -76,7 +76,7 @@ fn cut_subtrees_are_forgotten(rt: HostRuntime) -> Result<(), Fail> {
 }
 
 // Appends a definition list in a quote, and moves its only child out of it. Before that it records the end of the
-// child, or the end before it. Returns whether the child is then current, and the next sibling of the list.
+// list, after the child or before it. Returns whether the child is then current, and the next sibling of the list.
 fn move_child_out(tree: &mut Tree<Item>, ends_before: bool) -> Result<bool, AllocError>
     requires { tree.old ≡ empty_forest }
 {

@@ -15,7 +15,7 @@ fn has(tree: &Tree<Item>, nodes: &[(usize, Item)], cur: Option<TreeIndex>) -> bo
     tree.nodes() == nodes && tree.node_count() == nodes.len() && tree.cur() == cur
 }
 
-// The same after these steps.
+// Whether a new tree has these nodes and this current node after these steps.
 fn becomes(
     alloc: Global,
     steps: &[Step],

@@ -36,7 +36,7 @@ impl Outcome {
         }
     }
 
-    /// Returns whether the calls so far returned what is expected, so that more are made.
+    /// Returns whether each call so far did what is expected, refused or not, so that more are made.
     pub fn is_good(self) -> bool {
         matches!(self, Outcome::Usual | Outcome::Refused)
     }

@@ -24,7 +24,7 @@ pub fn answer_definitions(call: &Call<'_>, answer: &mut Answer) -> Result<bool, 
     Ok(true)
 }
 
-// The length in bytes of the definition that `definition_of` finds, with its label, destination and title.
+// The length in bytes of the definition that `definition_of` finds, with its label, destination, title and span.
 fn append_reference(call: &Call<'_>, answer: &mut Answer) -> Result<(), AllocError> {
     match &definition_of(call)? {
         Some((size, label, definition)) => append_definition(*size, label, definition, answer),

@@ -102,6 +102,7 @@ fn ask(alloc: Global, case: &Case<'_>, answer: &mut Answer) -> Result<bool, Allo
     answer_call(&call, answer)
 }
 
+// Makes a call and appends its result. Returns `false` if no call has this name.
 fn answer_call(call: &Call<'_>, answer: &mut Answer) -> Result<bool, AllocError> {
     Ok(
         answer_lines(call, answer)?
