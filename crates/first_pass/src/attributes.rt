@@ -1,10 +1,10 @@
 //! Setext headings, and the attributes of a heading, as calls of the pass.
 
-ghost use Rattle.std.specs.Prelude.{◌≡◌, ◌≤◌, length, slice_get, Some, IfOk, IfSome};
-ghost use Rattle.first_pass_tree.specs.Forest.{item_at};
 ghost use Rattle.first_pass.specs.Holds.{MakesHeading};
 ghost use Rattle.first_pass.specs.Results.{FindsAttributes};
 ghost use Rattle.first_pass.specs.Views.{source_text, tree_of};
+ghost use Rattle.first_pass_tree.specs.Forest.{item_at};
+ghost use Rattle.std.specs.Prelude.{◌≡◌, ◌≤◌, length, slice_get, Some, IfOk, IfSome};
 
 use crate::state::FirstPass;
 use first_pass_attributes::attrs::HeadingAttributes;

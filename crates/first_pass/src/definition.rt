@@ -1,9 +1,9 @@
 //! Link reference definitions, as calls of the pass.
 
-ghost use Rattle.std.specs.Prelude.{◌≡◌, IsCharBoundary};
-ghost use Rattle.first_pass_kinds.specs.Rests.{IsRestOf};
 ghost use Rattle.first_pass.specs.Results.{FindsDefinition, FindsLabel, FindsSpace, FindsTarget, FindsTitle};
 ghost use Rattle.first_pass.specs.Views.{source_text};
+ghost use Rattle.first_pass_kinds.specs.Rests.{IsRestOf};
+ghost use Rattle.std.specs.Prelude.{◌≡◌, IsCharBoundary};
 
 use crate::state::FirstPass;
 use first_pass_definitions::{label, reference, space, target, title};

@@ -1,8 +1,8 @@
 //! Footnote definitions, as a call of the pass (this project).
 
-ghost use Rattle.std.specs.Prelude.{IsCharBoundary};
 ghost use Rattle.first_pass.specs.Calls.{SeeksFootnote};
 ghost use Rattle.first_pass.specs.Views.{source_text};
+ghost use Rattle.std.specs.Prelude.{IsCharBoundary};
 
 use crate::state::FirstPass;
 use std::alloc::AllocError;

@@ -1,13 +1,13 @@
 //! Which lines interrupt a paragraph, as calls of the pass.
 
-ghost use Rattle.std.specs.Prelude.{◌≡◌, is_some, ◌&&◌, ◌||◌, not, false, None, IfOk, IsOk};
-ghost use Rattle.first_pass_links.specs.Footnotes.{footnote_head};
-ghost use Rattle.first_pass_grammar.specs.Kinds.{interrupts_with};
-ghost use Rattle.first_pass_items.specs.declared.option_set.Options.{Options};
-ghost use Rattle.first_pass_lists.specs.Closing.{top_body};
-ghost use Rattle.first_pass_tree.specs.Forest.{in_table};
 ghost use Rattle.first_pass.specs.Interrupts.{is_open_text, colon_interrupts};
 ghost use Rattle.first_pass.specs.Results.{FindsInterrupt, FindsNextLine};
+ghost use Rattle.first_pass_grammar.specs.Kinds.{interrupts_with};
+ghost use Rattle.first_pass_items.specs.declared.option_set.Options.{Options};
+ghost use Rattle.first_pass_links.specs.Footnotes.{footnote_head};
+ghost use Rattle.first_pass_lists.specs.Closing.{top_body};
+ghost use Rattle.first_pass_tree.specs.Forest.{in_table};
+ghost use Rattle.std.specs.Prelude.{◌≡◌, is_some, ◌&&◌, ◌||◌, not, false, None, IfOk, IsOk};
 
 use crate::state::FirstPass;
 use bitflags::Flags;

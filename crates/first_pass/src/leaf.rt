@@ -1,10 +1,10 @@
 //! Paragraphs and tables, headings and thematic breaks, as calls of the pass.
 
-ghost use Rattle.std.specs.Prelude.{◌≡◌, ◌+◌, ◌≤◌, drop, Some, false, length, IfOk, IfSome, IsCharBoundary};
-ghost use Rattle.first_pass_lines.specs.Lines.{atx_level as atx_level_of};
-ghost use Rattle.first_pass_tree.specs.Forest.{is_text};
 ghost use Rattle.first_pass.specs.Calls.{AddsAtxHeading, AddsParagraph, AddsRule};
 ghost use Rattle.first_pass.specs.Views.{source_text};
+ghost use Rattle.first_pass_lines.specs.Lines.{atx_level as atx_level_of};
+ghost use Rattle.first_pass_tree.specs.Forest.{is_text};
+ghost use Rattle.std.specs.Prelude.{◌≡◌, ◌+◌, ◌≤◌, drop, Some, false, length, IfOk, IfSome, IsCharBoundary};
 
 use crate::state::FirstPass;
 use first_pass_items::item::{HeadingLevel, Item};

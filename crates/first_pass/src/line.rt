@@ -1,10 +1,10 @@
 //! A line of a paragraph, or a cell of a table row, as a call of the pass (CommonMark 2.4, 4.8, GFM 4.10).
 
-ghost use Rattle.std.specs.Prelude.{IfOk, None};
-ghost use Rattle.first_pass_flank.specs.declared.flank.TableParseMode.TheVariants.{Active, Disabled};
 ghost use Rattle.first_pass.specs.Calls.{AppendsTokens, ReadsContent};
 ghost use Rattle.first_pass.specs.Lines.{CanBeRead, ContentReachesTo, ReadsPossibleHead};
 ghost use Rattle.first_pass.specs.Views.{source_text};
+ghost use Rattle.first_pass_flank.specs.declared.flank.TableParseMode.TheVariants.{Active, Disabled};
+ghost use Rattle.std.specs.Prelude.{IfOk, None};
 
 use crate::state::FirstPass;
 use first_pass_flank::flank::TableParseMode;

@@ -1,10 +1,10 @@
 //! Lists, definition lists and their items, as calls of the pass: how they continue, become loose and are closed
 //! (CommonMark 5.2, 5.3).
 
-ghost use Rattle.std.specs.Prelude.{IsSome, slice_get, OnOk};
-ghost use Rattle.first_pass_lists.specs.Closing.{popped, list_finished, list_continued};
 ghost use Rattle.first_pass.specs.Calls.{FinishesItem, RemembersAt};
 ghost use Rattle.first_pass.specs.Views.{state_of, tree_of};
+ghost use Rattle.first_pass_lists.specs.Closing.{popped, list_finished, list_continued};
+ghost use Rattle.std.specs.Prelude.{IsSome, slice_get, OnOk};
 
 use crate::state::FirstPass;
 use std::alloc::AllocError;

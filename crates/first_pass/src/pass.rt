@@ -1,8 +1,8 @@
 //! The block pass as a value: it reads a text block by block.
 
-ghost use Rattle.std.specs.Prelude.{◌<◌, length, IfOk, IsCharBoundary};
 ghost use Rattle.first_pass.specs.Calls.{ReadsBlockAt, StartsPass};
 ghost use Rattle.first_pass.specs.Views.{source_text};
+ghost use Rattle.std.specs.Prelude.{◌<◌, length, IfOk, IsCharBoundary};
 
 pub use crate::interrupt::scan_paragraph_interrupt_no_table;
 pub use crate::state::FirstPass;

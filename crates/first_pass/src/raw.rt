@@ -1,12 +1,12 @@
 //! Leaf blocks with raw lines: code, metadata and HTML.
 
-ghost use Rattle.std.specs.Prelude.{◌≡◌, ◌≤◌, Some, true, false, max, length, drop, IfOk, OnOk, IsCharBoundary};
-ghost use Rattle.first_pass_html.specs.Ends.{condition_of};
-ghost use Rattle.first_pass_lines.specs.Lines.{is_blank_line, is_content};
-ghost use Rattle.first_pass_scan.specs.LeafLines.{code_fence};
-ghost use Rattle.first_pass_raw.specs.declared.raw_line.RawKind.TheVariants.{Code, Html};
 ghost use Rattle.first_pass.specs.Calls.{AddsFencedCode, AddsHtmlToBlank, AddsHtmlToEnd, AddsIndentedCode, AddsMetadata, AppendsRawLine};
 ghost use Rattle.first_pass.specs.Views.{source_text};
+ghost use Rattle.first_pass_html.specs.Ends.{condition_of};
+ghost use Rattle.first_pass_lines.specs.Lines.{is_blank_line, is_content};
+ghost use Rattle.first_pass_raw.specs.declared.raw_line.RawKind.TheVariants.{Code, Html};
+ghost use Rattle.first_pass_scan.specs.LeafLines.{code_fence};
+ghost use Rattle.std.specs.Prelude.{◌≡◌, ◌≤◌, Some, true, false, max, length, drop, IfOk, OnOk, IsCharBoundary};
 
 use crate::state::FirstPass;
 use first_pass_html::ends::HtmlEnd;

@@ -1,11 +1,11 @@
 //! Tables, as calls of the pass (GFM 4.10).
 
-ghost use Rattle.std.specs.Prelude.{◌≤◌, length, IfOk, IsSomeAnd, IsCharBoundary};
-ghost use Rattle.first_pass_tree.specs.declared.tree_index.TreeIndex.{TreeIndex};
-ghost use Rattle.first_pass_open.specs.OpenBlock.{IsJustPushed};
-ghost use Rattle.first_pass_tables.specs.Appends.{IsOpenNode};
 ghost use Rattle.first_pass.specs.Calls.{ClosesTable, ReadsTableLine, ReadsTableRow};
 ghost use Rattle.first_pass.specs.Views.{source_text, tree_of};
+ghost use Rattle.first_pass_open.specs.OpenBlock.{IsJustPushed};
+ghost use Rattle.first_pass_tables.specs.Appends.{IsOpenNode};
+ghost use Rattle.first_pass_tree.specs.declared.tree_index.TreeIndex.{TreeIndex};
+ghost use Rattle.std.specs.Prelude.{◌≤◌, length, IfOk, IsSomeAnd, IsCharBoundary};
 
 use crate::state::FirstPass;
 use first_pass_tables::row::{self, CellsWanted, TableSoFar};

@@ -1,12 +1,12 @@
 //! The attribute block at the end of a heading (this project).
 
+ghost use Rattle.first_pass_attributes.specs.AttributeBlocks.{is_after_block, is_inside_block, opening_brace as opening_of, length_before_block, inside_block};
+ghost use Rattle.first_pass_attributes.specs.Attributes.{attributes_of, attributes_in, HasSeveral};
+ghost use Rattle.first_pass_items.specs.Bytes.{left_brace, right_brace};
 ghost use Rattle.std.specs.Int.{bit_at};
 ghost use Rattle.std.specs.List.{suffix_len};
 ghost use Rattle.std.specs.Option.{option_map};
 ghost use Rattle.std.specs.Prelude.{◌≡◌, ◌==◌, ◌^◌, ℕ, ◌≤◌, ◌<◌, ◌+◌, ◌-◌, length, true, take, slice_index, IfSome, IfOk, OnErr, IsSomeAnd, Some, None, IsUtf8, IsCharBoundary};
-ghost use Rattle.first_pass_items.specs.Bytes.{left_brace, right_brace};
-ghost use Rattle.first_pass_attributes.specs.AttributeBlocks.{is_after_block, is_inside_block, opening_brace as opening_of, length_before_block, inside_block};
-ghost use Rattle.first_pass_attributes.specs.Attributes.{attributes_of, attributes_in, HasSeveral};
 
 pub use crate::heading_attributes::HeadingAttributes;
 pub use crate::short_list::ShortList;

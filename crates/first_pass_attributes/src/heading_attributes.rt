@@ -1,7 +1,7 @@
 //! The attributes of a heading (this project).
 
-ghost use Rattle.std.specs.Prelude.{◌≡◌};
 ghost use Rattle.first_pass_attributes.specs.Attributes.{attributes_in, no_attributes};
+ghost use Rattle.std.specs.Prelude.{◌≡◌};
 
 use crate::short_list::ShortList;
 

@@ -21,8 +21,8 @@ pub enum Items<T> {
 }
 
 impl<T> Model for ShortList<T> {
-    ghost use Rattle.std.specs.Prelude.{◌≡◌, ◌<◌, List, length, true};
     ghost use Rattle.first_pass_attributes.specs.ShortLists.{listed, is_on_heap};
+    ghost use Rattle.std.specs.Prelude.{◌≡◌, ◌<◌, List, length, true};
 
     ghost Value = { List T };
 

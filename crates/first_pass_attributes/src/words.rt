@@ -1,10 +1,10 @@
 //! The words in an attribute block (this project).
 
-ghost use Rattle.std.specs.List.{position, prefix_len};
-ghost use Rattle.std.specs.Prelude.{◌≡◌, ◌==◌, ◌≤◌, ◌<◌, ◌∷◌, [], Some, None, not, filter, length, take, drop, slice_index, IfSome, OnOk, OnErr};
+ghost use Rattle.first_pass_attributes.specs.Attributes.{is_between_words, is_solid, is_attribute_word, words, key_and_value as key_and_value_of, with_words, pair_in, attributes_in, HasSeveral};
 ghost use Rattle.first_pass_items.specs.Bytes.{equals_sign};
 ghost use Rattle.first_pass_lines.specs.Lanes.{IsRunIn};
-ghost use Rattle.first_pass_attributes.specs.Attributes.{is_between_words, is_solid, is_attribute_word, words, key_and_value as key_and_value_of, with_words, pair_in, attributes_in, HasSeveral};
+ghost use Rattle.std.specs.List.{position, prefix_len};
+ghost use Rattle.std.specs.Prelude.{◌≡◌, ◌==◌, ◌≤◌, ◌<◌, ◌∷◌, [], Some, None, not, filter, length, take, drop, slice_index, IfSome, OnOk, OnErr};
 
 use crate::heading_attributes::HeadingAttributes;
 use first_pass_lines::lanes::{LANES, first_set};

@@ -1,9 +1,9 @@
 //! The work of the program `bench`.
 
-ghost use Rattle.std.specs.Prelude.{ℕ, List, OnOk, IfErr};
-ghost use Rattle.std.specs.Io.KnownBytes.{Appends};
-ghost use Rattle.first_pass_host.specs.Streams.{stream_between};
 ghost use Rattle.first_pass_bench.specs.Bench.{IsReported, FaultLeaves, LeavesText, WritesReport};
+ghost use Rattle.first_pass_host.specs.Streams.{stream_between};
+ghost use Rattle.std.specs.Io.KnownBytes.{Appends};
+ghost use Rattle.std.specs.Prelude.{ℕ, List, OnOk, IfErr};
 
 use crate::timed::time_runs;
 use first_pass_host::fault::RunFault;

@@ -1,10 +1,10 @@
 //! Timed runs of the pass.
 
-ghost use Rattle.std.specs.Prelude.{◌∷◌, [], IfOk, IfErr};
-ghost use Rattle.std.specs.Io.KnownBytes.{Consumes};
 ghost use Rattle.first_pass_bench.specs.Bench.{CountsNodes};
 ghost use Rattle.first_pass_host.specs.Streams.{IsReadFault};
 ghost use Rattle.first_pass_timing.specs.Timing.{IsTimed};
+ghost use Rattle.std.specs.Io.KnownBytes.{Consumes};
+ghost use Rattle.std.specs.Prelude.{◌∷◌, [], IfOk, IfErr};
 
 use first_pass_blocks::pass::run_first_pass;
 use first_pass_host::fault::RunFault;

@@ -1,13 +1,13 @@
 //! Runs of link reference definitions (CommonMark 4.7).
 
-ghost use Rattle.std.specs.Prelude.{◌≡◌, ◌||◌, IfOk, OnErr, Some, None, IsUtf8, IsCharBoundary, true, if◌then◌else◌};
-ghost use Rattle.first_pass_lines.specs.Places.{line_rest};
-ghost use Rattle.first_pass_grammar.specs.Containers.{front};
-ghost use Rattle.first_pass_grammar.specs.Kinds.{all_taken, is_ordinary_after_tag, is_blank_rest};
-ghost use Rattle.first_pass_open.specs.Path.{context_of};
-ghost use Rattle.first_pass_kinds.specs.Memory.{line_may_head_table};
 ghost use Rattle.first_pass_blocks.specs.Runs.{ReadsDefinitions};
 ghost use Rattle.first_pass_blocks.specs.Views.{source_text};
+ghost use Rattle.first_pass_grammar.specs.Containers.{front};
+ghost use Rattle.first_pass_grammar.specs.Kinds.{all_taken, is_ordinary_after_tag, is_blank_rest};
+ghost use Rattle.first_pass_kinds.specs.Memory.{line_may_head_table};
+ghost use Rattle.first_pass_lines.specs.Places.{line_rest};
+ghost use Rattle.first_pass_open.specs.Path.{context_of};
+ghost use Rattle.std.specs.Prelude.{◌≡◌, ◌||◌, IfOk, OnErr, Some, None, IsUtf8, IsCharBoundary, true, if◌then◌else◌};
 
 use crate::state::BlockPass;
 use first_pass_definitions::reference::parse_refdef_total;

@@ -1,9 +1,9 @@
 //! Footnote definitions: how the one that begins at a place is opened (this project).
 
-ghost use Rattle.std.specs.Prelude.{◌≡◌, ◌+◌, ◌<◌, None, IfOk, IfSome, IsUtf8, IsCharBoundary};
-ghost use Rattle.first_pass_lines.specs.Places.{IsPlaceOf};
 ghost use Rattle.first_pass_blocks.specs.OpenedFootnotes.{ReadsFootnote, TriesFootnote};
 ghost use Rattle.first_pass_blocks.specs.Views.{front_of, state_of, source_of, source_text};
+ghost use Rattle.first_pass_lines.specs.Places.{IsPlaceOf};
+ghost use Rattle.std.specs.Prelude.{◌≡◌, ◌+◌, ◌<◌, None, IfOk, IfSome, IsUtf8, IsCharBoundary};
 
 use crate::state::BlockPass;
 use first_pass_containers::footnote::{footnote_mark, place_after_head};

@@ -1,11 +1,11 @@
 //! Leaf blocks that are recognised by their mark (CommonMark 4.1, 4.2, 4.4 to 4.6, and metadata).
 
-ghost use Rattle.std.specs.Prelude.{IfOk, ℕ};
-ghost use Rattle.first_pass_lines.specs.Places.{Place};
+ghost use Rattle.first_pass_blocks.specs.Adding.{AddsLeaf, IsFoundIn};
 ghost use Rattle.first_pass_grammar.specs.Kinds.{HtmlToEnd as HtmlKind};
 ghost use Rattle.first_pass_kinds.specs.BlockStart.{marked_kind};
 ghost use Rattle.first_pass_kinds.specs.declared.kinds.MarkedLeaf.TheVariants.{IndentedCode, Metadata, HtmlToEnd, ThematicBreak, AtxHeading, FencedCode};
-ghost use Rattle.first_pass_blocks.specs.Adding.{AddsLeaf, IsFoundIn};
+ghost use Rattle.first_pass_lines.specs.Places.{Place};
+ghost use Rattle.std.specs.Prelude.{IfOk, ℕ};
 
 use crate::state::BlockPass;
 use first_pass_html::ends::HtmlEnd;

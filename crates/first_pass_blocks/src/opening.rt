@@ -1,10 +1,10 @@
 //! The containers that begin in a line (CommonMark 5).
 
-ghost use Rattle.std.specs.Prelude.{◌≡◌, false, IfOk, IsUtf8};
-ghost use Rattle.first_pass_lines.specs.Places.{line_end, IsPlaceOf};
 ghost use Rattle.first_pass_blocks.specs.Progress.{IsAtPlace, KnowsNext, ReadsBlock, ReadsEntered};
-ghost use Rattle.first_pass_containers.specs.Starts.{last_at, IsAfterMarker};
 ghost use Rattle.first_pass_blocks.specs.Views.{front_of, state_of, source_text};
+ghost use Rattle.first_pass_containers.specs.Starts.{last_at, IsAfterMarker};
+ghost use Rattle.first_pass_lines.specs.Places.{line_end, IsPlaceOf};
+ghost use Rattle.std.specs.Prelude.{◌≡◌, false, IfOk, IsUtf8};
 
 use crate::state::BlockPass;
 use first_pass_containers::containers::{

@@ -1,28 +1,28 @@
 //! The block pass: the lines of a text, one block after the other.
 
-ghost use Rattle.std.specs.Prelude.{◌≡◌, ◌<◌, ◌≤◌, ◌+◌, ◌*◌, [], length, None, true, false, IfOk, IsUtf8, IsCharBoundary};
-ghost use Rattle.first_pass_lines.specs.Places.{offset, line_end, IsPlaceOf};
-ghost use Rattle.first_pass_grammar.specs.Leaves.{document};
-ghost use Rattle.first_pass_grammar.specs.Derivation.{no_tables, Derives, IsOnlyDerived};
-ghost use Rattle.first_pass_grammar.specs.Completion.{lines_from};
-ghost use Rattle.first_pass_grammar.specs.Kinds.{Paragraph, unindented, IsKind};
-ghost use Rattle.first_pass_grammar.specs.Counting.{inserted_cells, counted_nodes};
-ghost use Rattle.first_pass_grammar.specs.WholeTables.{AreWholeTables, HasWholeTables};
-ghost use Rattle.first_pass_grammar.specs.Order.{IsOrdered};
-ghost use Rattle.first_pass_grammar.specs.Names.{Names, AreNamed};
-ghost use Rattle.first_pass_names.specs.TableEntries.{tables_of, names_of, refdefs_of, footdefs_of};
-ghost use Rattle.first_pass_definitions.specs.Found.{AreWritten};
-ghost use Rattle.first_pass_kinds.specs.BlockStart.{IsFoundAt};
-ghost use Rattle.first_pass_grammar.specs.declared.kind.AfterMarker.TheVariants.{TaskText};
-ghost use Rattle.first_pass_ready.specs.State.{Ready};
-ghost use Rattle.first_pass_order.specs.Ordered.{IsReadTo};
-ghost use Rattle.first_pass_containers.specs.Positions.{LineAt, TaskAt, TaggedAt};
 ghost use Rattle.first_pass_blocks.specs.Progress.{HasSameParts, IsAtPlace, KnowsNext, ReadsBlock, ReadsLeaf};
-ghost use Rattle.first_pass_order.specs.Settled.{AreSettled};
-ghost use Rattle.first_pass_containers.specs.Starts.{IsAfterMarker};
 ghost use Rattle.first_pass_blocks.specs.Titles.{ReadsTextOrTitle};
-ghost use Rattle.first_pass_blocks.specs.Written.{AreFootnotesWritten};
 ghost use Rattle.first_pass_blocks.specs.Views.{allocs_of, front_of, state_of, source_options, source_text, tree_of};
+ghost use Rattle.first_pass_blocks.specs.Written.{AreFootnotesWritten};
+ghost use Rattle.first_pass_containers.specs.Positions.{LineAt, TaskAt, TaggedAt};
+ghost use Rattle.first_pass_containers.specs.Starts.{IsAfterMarker};
+ghost use Rattle.first_pass_definitions.specs.Found.{AreWritten};
+ghost use Rattle.first_pass_grammar.specs.Completion.{lines_from};
+ghost use Rattle.first_pass_grammar.specs.Counting.{inserted_cells, counted_nodes};
+ghost use Rattle.first_pass_grammar.specs.declared.kind.AfterMarker.TheVariants.{TaskText};
+ghost use Rattle.first_pass_grammar.specs.Derivation.{no_tables, Derives, IsOnlyDerived};
+ghost use Rattle.first_pass_grammar.specs.Kinds.{Paragraph, unindented, IsKind};
+ghost use Rattle.first_pass_grammar.specs.Leaves.{document};
+ghost use Rattle.first_pass_grammar.specs.Names.{Names, AreNamed};
+ghost use Rattle.first_pass_grammar.specs.Order.{IsOrdered};
+ghost use Rattle.first_pass_grammar.specs.WholeTables.{AreWholeTables, HasWholeTables};
+ghost use Rattle.first_pass_kinds.specs.BlockStart.{IsFoundAt};
+ghost use Rattle.first_pass_lines.specs.Places.{offset, line_end, IsPlaceOf};
+ghost use Rattle.first_pass_names.specs.TableEntries.{tables_of, names_of, refdefs_of, footdefs_of};
+ghost use Rattle.first_pass_order.specs.Ordered.{IsReadTo};
+ghost use Rattle.first_pass_order.specs.Settled.{AreSettled};
+ghost use Rattle.first_pass_ready.specs.State.{Ready};
+ghost use Rattle.std.specs.Prelude.{◌≡◌, ◌<◌, ◌≤◌, ◌+◌, ◌*◌, [], length, None, true, false, IfOk, IsUtf8, IsCharBoundary};
 
 use crate::definition::RunEnd;
 use crate::state::BlockPass;

@@ -1,7 +1,7 @@
 //! The fields of the block pass.
 
-ghost use Rattle.first_pass_metadata.specs.MetadataSearch.{IsKnownOf};
 ghost use Rattle.first_pass_metadata.proofs.KnownFacts.{known_prop};
+ghost use Rattle.first_pass_metadata.specs.MetadataSearch.{IsKnownOf};
 
 use first_pass_kinds::next_front::NextFront;
 use first_pass_lists::state::PassState;

@@ -1,19 +1,19 @@
 //! Paragraphs, setext headings, and tables that the first line of a text heads, at places where no other block begins
 //! (CommonMark 4.3, 4.8, GFM 4.10).
 
-ghost use Rattle.std.specs.Prelude.{◌≡◌, ◌≤◌, ◌+◌, false, ℕ, length, drop, Option, Some, IfOk, IfSome, OnOk, IsUtf8, IsCharBoundary};
-ghost use Rattle.first_pass_items.specs.declared.item.Item.{Item};
-ghost use Rattle.first_pass_tree.specs.Forest.{is_text};
-ghost use Rattle.first_pass_names.specs.TableEntries.{names_of, NamesMore};
-ghost use Rattle.first_pass_grammar.specs.Leaves.{document};
-ghost use Rattle.first_pass_grammar.specs.TableHeads.{headed_table};
-ghost use Rattle.first_pass_kinds.specs.TableHeads.{table_head_len};
-ghost use Rattle.first_pass_open.specs.Path.{context_of};
-ghost use Rattle.first_pass_open.specs.Between.{AddsBetween, MarkerIsInItem, MarkerBetween};
-ghost use Rattle.first_pass_lists.specs.Closing.{with_tree};
-ghost use Rattle.first_pass_containers.specs.TextsAdded.{AddsText};
 ghost use Rattle.first_pass_blocks.specs.Progress.{KnowsNext};
 ghost use Rattle.first_pass_blocks.specs.Views.{allocs_of, source_of, source_options, source_text, state_of, tree_of};
+ghost use Rattle.first_pass_containers.specs.TextsAdded.{AddsText};
+ghost use Rattle.first_pass_grammar.specs.Leaves.{document};
+ghost use Rattle.first_pass_grammar.specs.TableHeads.{headed_table};
+ghost use Rattle.first_pass_items.specs.declared.item.Item.{Item};
+ghost use Rattle.first_pass_kinds.specs.TableHeads.{table_head_len};
+ghost use Rattle.first_pass_lists.specs.Closing.{with_tree};
+ghost use Rattle.first_pass_names.specs.TableEntries.{names_of, NamesMore};
+ghost use Rattle.first_pass_open.specs.Between.{AddsBetween, MarkerIsInItem, MarkerBetween};
+ghost use Rattle.first_pass_open.specs.Path.{context_of};
+ghost use Rattle.first_pass_tree.specs.Forest.{is_text};
+ghost use Rattle.std.specs.Prelude.{◌≡◌, ◌≤◌, ◌+◌, false, ℕ, length, drop, Option, Some, IfOk, IfSome, OnOk, IsUtf8, IsCharBoundary};
 
 use crate::state::BlockPass;
 use first_pass_items::item::{Item, ItemBody};

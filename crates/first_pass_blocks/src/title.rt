@@ -1,10 +1,10 @@
 //! A text right after a definition, which may be the next title of the definition list.
 
-ghost use Rattle.std.specs.Prelude.{◌≡◌, true, false, IfOk, OnOk, IsCharBoundary};
-ghost use Rattle.first_pass_lists.specs.Closing.{is_after_definition};
-ghost use Rattle.first_pass_containers.specs.Titles.{current_end, is_paragraph_last};
 ghost use Rattle.first_pass_blocks.specs.Titles.{ReadsTitle};
 ghost use Rattle.first_pass_blocks.specs.Views.{front_of, source_text, tree_of};
+ghost use Rattle.first_pass_containers.specs.Titles.{current_end, is_paragraph_last};
+ghost use Rattle.first_pass_lists.specs.Closing.{is_after_definition};
+ghost use Rattle.std.specs.Prelude.{◌≡◌, true, false, IfOk, OnOk, IsCharBoundary};
 
 use crate::state::BlockPass;
 use first_pass_items::item::{Item, ItemBody};

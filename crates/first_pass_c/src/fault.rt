@@ -1,8 +1,8 @@
 //! The reasons for which a call fails.
 
-ghost use Rattle.std.specs.Prelude.{◌≡◌};
-ghost use Rattle.first_pass_c.specs.Statuses.{status_of};
 ghost use Rattle.first_pass_c.specs.declared.fault.Fault.TheVariants.{OutOfMemory, TooLong as TooLongFault};
+ghost use Rattle.first_pass_c.specs.Statuses.{status_of};
+ghost use Rattle.std.specs.Prelude.{◌≡◌};
 
 use first_pass_flat::fault::TooLong;
 use std::alloc::AllocError;

@@ -1,7 +1,7 @@
 //! The folding of a label, in memory of the caller.
 
-ghost use Rattle.std.specs.Prelude.{OnOk, IfErr};
 ghost use Rattle.first_pass_c.specs.Folding.{FoldLeaves, IsFolded};
+ghost use Rattle.std.specs.Prelude.{OnOk, IfErr};
 
 use crate::copying::copy_into;
 use crate::fault::Fault;

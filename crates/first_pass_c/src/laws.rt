@@ -1,12 +1,12 @@
 //! The law of ranges of names.
 
-ghost use Rattle.std.specs.Prelude.{◌≡◌, ◌≤◌, ℕ, List, length};
-ghost use Rattle.first_pass_items.specs.declared.item.Item.{Item};
-ghost use Rattle.first_pass_grammar.specs.Names.{Names};
+ghost use Rattle.first_pass_c.specs.Naming.{range_named};
 ghost use Rattle.first_pass_flat.specs.declared.nodes.FlatPlace.{FlatPlace};
 ghost use Rattle.first_pass_flat.specs.FlatNodes.{flat_node};
+ghost use Rattle.first_pass_grammar.specs.Names.{Names};
+ghost use Rattle.first_pass_items.specs.declared.item.Item.{Item};
 ghost use Rattle.first_pass_places.specs.NamePlaces.{name_range};
-ghost use Rattle.first_pass_c.specs.Naming.{range_named};
+ghost use Rattle.std.specs.Prelude.{◌≡◌, ◌≤◌, ℕ, List, length};
 
 /// The record of a node that is in a text has the same range of its name as the node.
 pub fn records_have_the_ranges_of_names()

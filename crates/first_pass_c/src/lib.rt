@@ -1,12 +1,12 @@
 //! The block pass for other languages: three calls that write into memory of their caller.
 #![tactic(auto)]
 
-ghost use Rattle.std.specs.Prelude.{◌≡◌, ◌≢◌, ◌≤◌, IsUtf8, None, Some, ℕ};
-ghost use Rattle.std.specs.declared.ops.Range.{Range};
 ghost use Rattle.first_pass_c.specs.Folding.{HasNoRoomFor, IsFolded};
+ghost use Rattle.first_pass_c.specs.Memory.{memory};
 ghost use Rattle.first_pass_c.specs.Naming.{flat_range, range_named};
 ghost use Rattle.first_pass_c.specs.Reading.{AreKnown, IsNotUtf8, IsTextRead, IsReadable, IsTooLong, IsTooSmall};
-ghost use Rattle.first_pass_c.specs.Memory.{memory};
+ghost use Rattle.std.specs.declared.ops.Range.{Range};
+ghost use Rattle.std.specs.Prelude.{◌≡◌, ◌≢◌, ◌≤◌, IsUtf8, None, Some, ℕ};
 
 pub mod copying;
 pub mod fault;

@@ -1,8 +1,8 @@
 //! The range in which a text has what a node names.
 
-ghost use Rattle.std.specs.Prelude.{◌≡◌};
-ghost use Rattle.std.specs.Option.{option_map};
 ghost use Rattle.first_pass_c.specs.Naming.{body_of, flat_range, range_named};
+ghost use Rattle.std.specs.Option.{option_map};
+ghost use Rattle.std.specs.Prelude.{◌≡◌};
 
 use first_pass_flat::records::FlatNode;
 use first_pass_items::item::{CowIndex, HeadingIndex, HeadingLevel, Item, ItemBody};

@@ -1,9 +1,9 @@
 //! Reads a text, and writes its flat form into memory of the caller.
 
-ghost use Rattle.std.specs.Prelude.{◌≡◌, IfErr, IfOk, IfSome, IsNone, OnOk};
 ghost use Rattle.first_pass_c.specs.Memory.{memory};
 ghost use Rattle.first_pass_c.specs.Parsed.{IsParsed, HasSides, form_of};
 ghost use Rattle.first_pass_c.specs.Reading.{AreKnown, IsFormWritten, ReadLeaves, WriteLeaves, counts_of};
+ghost use Rattle.std.specs.Prelude.{◌≡◌, IfErr, IfOk, IfSome, IsNone, OnOk};
 
 use crate::copying::copy_into;
 use crate::fault::Fault;

@@ -1,8 +1,8 @@
 //! The fault that ends a run over a table of cases before the table's end.
 
-ghost use Rattle.std.specs.Prelude.{◌≡◌};
-ghost use Rattle.first_pass_host.specs.declared.fault.RunFault.TheVariants.{OutOfMemory};
 ghost use Rattle.first_pass_cases.specs.declared.fault.CasesFault.TheVariants.{Run};
+ghost use Rattle.first_pass_host.specs.declared.fault.RunFault.TheVariants.{OutOfMemory};
+ghost use Rattle.std.specs.Prelude.{◌≡◌};
 
 use first_pass_host::fault::RunFault;
 use std::alloc::{AllocError, Global};

@@ -1,9 +1,9 @@
 //! The table that a program reads, and the report that it writes.
 
-ghost use Rattle.std.specs.Prelude.{◌++◌};
-ghost use Rattle.std.specs.Fn.{FnOnceReturnsAtMut};
-ghost use Rattle.first_pass_host.specs.Streams.{WritesText, stream_between};
 ghost use Rattle.first_pass_cases.specs.Tallies.{ReportsCases, tally_line};
+ghost use Rattle.first_pass_host.specs.Streams.{WritesText, stream_between};
+ghost use Rattle.std.specs.Fn.{FnOnceReturnsAtMut};
+ghost use Rattle.std.specs.Prelude.{◌++◌};
 
 use crate::fault::CasesFault;
 use crate::tally::Tally;

@@ -1,8 +1,8 @@
 //! The number of cases in a table, and how many of them differ.
 
+ghost use Rattle.first_pass_cases.specs.Tallies.{status_of, tally_line};
 ghost use Rattle.std.specs.Prelude.{◌≡◌, ◌==◌, IfOk, if◌then◌else◌, string_bytes};
 ghost use Rattle.std.specs.Process.{exit_status};
-ghost use Rattle.first_pass_cases.specs.Tallies.{status_of, tally_line};
 
 use crate::fault::CasesFault;
 use std::alloc::{AllocError, Global};

@@ -1,13 +1,13 @@
 //! The open containers: how far a line continues them, and how they are closed and opened (CommonMark 5).
 
-ghost use Rattle.std.specs.Prelude.{◌≡◌, ◌<◌, ◌≤◌, ◌-◌, length, None, OnOk, IsUtf8, IsCharBoundary, true};
-ghost use Rattle.first_pass_lines.specs.Places.{line_end, IsPlaceOf};
-ghost use Rattle.first_pass_open.specs.Path.{outer};
-ghost use Rattle.first_pass_kinds.specs.Fronts.{IsFrontAt};
 ghost use Rattle.first_pass_containers.specs.Entering.{all_popped, place_entered, ClosesAt, EntersLine};
-ghost use Rattle.first_pass_lists.specs.Closing.{footnote_ended};
 ghost use Rattle.first_pass_containers.specs.Positions.{LineAt, ReadsTo, may_define};
 ghost use Rattle.first_pass_containers.specs.Starts.{start_opened, BeginsNoContainer};
+ghost use Rattle.first_pass_kinds.specs.Fronts.{IsFrontAt};
+ghost use Rattle.first_pass_lines.specs.Places.{line_end, IsPlaceOf};
+ghost use Rattle.first_pass_lists.specs.Closing.{footnote_ended};
+ghost use Rattle.first_pass_open.specs.Path.{outer};
+ghost use Rattle.std.specs.Prelude.{◌≡◌, ◌<◌, ◌≤◌, ◌-◌, length, None, OnOk, IsUtf8, IsCharBoundary, true};
 
 use crate::openers::{Opener, Start};
 use bitflags::Flags;

@@ -1,9 +1,9 @@
 //! The place of a footnote definition's mark, and the place after its head (this project).
 
-ghost use Rattle.std.specs.Prelude.{◌≡◌, ◌≤◌, ◌+◌, ◌<◌, length, drop, None, IfSome, IsUtf8, IsCharBoundary, if◌then◌else◌};
+ghost use Rattle.first_pass_containers.specs.FootnoteHeads.{footnote_mark_at, blank_before_more, IsAfterHead};
 ghost use Rattle.first_pass_items.specs.OptionWords.{gfm_footnotes};
 ghost use Rattle.first_pass_lines.specs.Places.{IsPlaceOf};
-ghost use Rattle.first_pass_containers.specs.FootnoteHeads.{footnote_mark_at, blank_before_more, IsAfterHead};
+ghost use Rattle.std.specs.Prelude.{◌≡◌, ◌≤◌, ◌+◌, ◌<◌, length, drop, None, IfSome, IsUtf8, IsCharBoundary, if◌then◌else◌};
 
 use bitflags::Flags;
 use first_pass_items::option_set::Options;

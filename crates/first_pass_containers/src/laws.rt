@@ -1,15 +1,15 @@
 //! Laws of the state of the pass between two blocks.
 
-ghost use Rattle.std.specs.Prelude.{List, ℕ};
-ghost use Rattle.first_pass_lines.specs.Places.{Place};
-ghost use Rattle.first_pass_grammar.specs.Leaves.{Document};
-ghost use Rattle.first_pass_grammar.specs.Derivation.{Tables};
+ghost use Rattle.first_pass_containers.specs.Completed.{IsCompleted};
 ghost use Rattle.first_pass_grammar.specs.Completion.{lines_from};
-ghost use Rattle.first_pass_grammar.specs.WholeTables.{AreWholeTables};
+ghost use Rattle.first_pass_grammar.specs.Derivation.{Tables};
+ghost use Rattle.first_pass_grammar.specs.Leaves.{Document};
 ghost use Rattle.first_pass_grammar.specs.Names.{AreNamed};
+ghost use Rattle.first_pass_grammar.specs.WholeTables.{AreWholeTables};
+ghost use Rattle.first_pass_lines.specs.Places.{Place};
 ghost use Rattle.first_pass_lists.specs.declared.state.PassState.{PassState};
 ghost use Rattle.first_pass_ready.specs.State.{StaysReady};
-ghost use Rattle.first_pass_containers.specs.Completed.{IsCompleted};
+ghost use Rattle.std.specs.Prelude.{List, ℕ};
 
 /// A ready state can be completed. Suppose that the state begins a derivation of the text that continues with these
 /// lines and has these definitions so far, under the present names and all that extend them. Then some blocks complete

@@ -1,13 +1,13 @@
 //! The list item, definition or block quote that begins at a place (CommonMark 5.1, 5.2, and this project).
 
-ghost use Rattle.std.specs.Prelude.{◌≡◌, ◌≤◌, ℕ, min, Some, None, MatchOption, IsSomeAnd, IsUtf8, if◌then◌else◌};
-ghost use Rattle.first_pass_lines.specs.Places.{IsPlaceOf};
-ghost use Rattle.first_pass_lines.specs.Rest.{indent, after_columns};
-ghost use Rattle.first_pass_grammar.specs.declared.kind.Container.TheVariants.{BlockQuote};
+ghost use Rattle.first_pass_containers.specs.Starts.{marker_of, item_after, IsIndented, StartMatches};
 ghost use Rattle.first_pass_grammar.specs.Containers.{at_rest, prefix};
+ghost use Rattle.first_pass_grammar.specs.declared.kind.Container.TheVariants.{BlockQuote};
 ghost use Rattle.first_pass_grammar.specs.Kinds.{all_taken, item_at, definition_marker_at, is_blank_rest};
 ghost use Rattle.first_pass_grammar.specs.Openers.{task_after, tag_after, after_quote, start_at};
-ghost use Rattle.first_pass_containers.specs.Starts.{marker_of, item_after, IsIndented, StartMatches};
+ghost use Rattle.first_pass_lines.specs.Places.{IsPlaceOf};
+ghost use Rattle.first_pass_lines.specs.Rest.{indent, after_columns};
+ghost use Rattle.std.specs.Prelude.{◌≡◌, ◌≤◌, ℕ, min, Some, None, MatchOption, IsSomeAnd, IsUtf8, if◌then◌else◌};
 
 use bitflags::Flags;
 use first_pass_grammar::AfterMarker;

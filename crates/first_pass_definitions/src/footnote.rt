@@ -1,15 +1,15 @@
 //! The head of a footnote definition.
 
-ghost use Rattle.std.specs.Prelude.{◌≡◌, ℕ, ◌+◌, ◌<◌, drop, None, true, false, IfOk, IfSome, OnErr, IsSomeAnd, MatchOption, IsCharBoundary};
-ghost use Rattle.first_pass_items.specs.CowText.{text_of};
-ghost use Rattle.first_pass_entities.specs.Texts.{Borrows};
-ghost use Rattle.first_pass_tree.specs.Forest.{in_table};
-ghost use Rattle.first_pass_grammar.specs.Footnotes.{footnote_prefix, footnote_at, label_bytes};
-ghost use Rattle.first_pass_open.specs.Path.{context_of};
-ghost use Rattle.first_pass_items.specs.OptionWords.{gfm_footnotes};
-ghost use Rattle.first_pass_lines.specs.Places.{line_rest};
-ghost use Rattle.first_pass_kinds.specs.Memory.{line_may_head_table};
 ghost use Rattle.first_pass_definitions.specs.Memory.{FootnoteAsks};
+ghost use Rattle.first_pass_entities.specs.Texts.{Borrows};
+ghost use Rattle.first_pass_grammar.specs.Footnotes.{footnote_prefix, footnote_at, label_bytes};
+ghost use Rattle.first_pass_items.specs.CowText.{text_of};
+ghost use Rattle.first_pass_items.specs.OptionWords.{gfm_footnotes};
+ghost use Rattle.first_pass_kinds.specs.Memory.{line_may_head_table};
+ghost use Rattle.first_pass_lines.specs.Places.{line_rest};
+ghost use Rattle.first_pass_open.specs.Path.{context_of};
+ghost use Rattle.first_pass_tree.specs.Forest.{in_table};
+ghost use Rattle.std.specs.Prelude.{◌≡◌, ℕ, ◌+◌, ◌<◌, drop, None, true, false, IfOk, IfSome, OnErr, IsSomeAnd, MatchOption, IsCharBoundary};
 
 use crate::label::scan_label_prefix;
 use first_pass_items::cow_str::CowStr;

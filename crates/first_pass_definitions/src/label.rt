@@ -1,15 +1,15 @@
 //! The label of a link reference definition.
 
-ghost use Rattle.std.specs.Prelude.{◌≡◌, ℕ, ◌+◌, ◌-◌, ◌<◌, take, drop, None, IfOk, IfSome, OnErr, IsSomeAnd, MatchOption, IsCharBoundary, true};
-ghost use Rattle.first_pass_items.specs.CowText.{text_of};
-ghost use Rattle.first_pass_links.specs.Labels.{label_at};
-ghost use Rattle.first_pass_entities.specs.Texts.{Borrows};
-ghost use Rattle.first_pass_tree.specs.Forest.{in_table};
-ghost use Rattle.first_pass_grammar.specs.Definitions.{prefix_crossed};
-ghost use Rattle.first_pass_open.specs.Path.{context_of};
-ghost use Rattle.first_pass_lines.specs.Places.{line_rest};
-ghost use Rattle.first_pass_kinds.specs.Memory.{line_may_head_table};
 ghost use Rattle.first_pass_definitions.specs.Memory.{LabelAsks};
+ghost use Rattle.first_pass_entities.specs.Texts.{Borrows};
+ghost use Rattle.first_pass_grammar.specs.Definitions.{prefix_crossed};
+ghost use Rattle.first_pass_items.specs.CowText.{text_of};
+ghost use Rattle.first_pass_kinds.specs.Memory.{line_may_head_table};
+ghost use Rattle.first_pass_lines.specs.Places.{line_rest};
+ghost use Rattle.first_pass_links.specs.Labels.{label_at};
+ghost use Rattle.first_pass_open.specs.Path.{context_of};
+ghost use Rattle.first_pass_tree.specs.Forest.{in_table};
+ghost use Rattle.std.specs.Prelude.{◌≡◌, ℕ, ◌+◌, ◌-◌, ◌<◌, take, drop, None, IfOk, IfSome, OnErr, IsSomeAnd, MatchOption, IsCharBoundary, true};
 
 use first_pass_items::cow_str::CowStr;
 use first_pass_items::item::Item;

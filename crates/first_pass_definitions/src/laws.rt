@@ -1,9 +1,9 @@
 //! Laws of definitions.
 
-ghost use Rattle.std.specs.Prelude.{◌≡◌, ℕ, List, Bool, drop, Some, true, is_some, ◌<◌, ◌-◌, false, slice_index};
-ghost use Rattle.first_pass_lines.specs.Lines.{is_line_end, blank_len};
 ghost use Rattle.first_pass_grammar.specs.Containers.{Context};
 ghost use Rattle.first_pass_grammar.specs.Definitions.{LinkReference, reference_definition_at};
+ghost use Rattle.first_pass_lines.specs.Lines.{is_line_end, blank_len};
+ghost use Rattle.std.specs.Prelude.{◌≡◌, ℕ, List, Bool, drop, Some, true, is_some, ◌<◌, ◌-◌, false, slice_index};
 
 /// The last byte of a definition is no line ending, and the rest of its line is blank. CommonMark 4.7.
 pub fn law_of_definitions()

@@ -1,13 +1,13 @@
 //! Link reference definitions.
 
-ghost use Rattle.std.specs.Prelude.{◌≡◌, ◌+◌, ◌<◌, drop, None, IfOk, IfSome, OnErr, IsSomeAnd, MatchOption, IsCharBoundary, true};
-ghost use Rattle.first_pass_items.specs.Bytes.{left_bracket};
-ghost use Rattle.first_pass_lines.specs.Lines.{begins};
-ghost use Rattle.first_pass_tree.specs.Forest.{in_table};
-ghost use Rattle.first_pass_grammar.specs.Definitions.{reference_definition_at};
-ghost use Rattle.first_pass_open.specs.Path.{context_of};
 ghost use Rattle.first_pass_definitions.specs.Found.{BorrowsLabel, HasParts, IsReference};
 ghost use Rattle.first_pass_definitions.specs.Memory.{ReferenceAsks};
+ghost use Rattle.first_pass_grammar.specs.Definitions.{reference_definition_at};
+ghost use Rattle.first_pass_items.specs.Bytes.{left_bracket};
+ghost use Rattle.first_pass_lines.specs.Lines.{begins};
+ghost use Rattle.first_pass_open.specs.Path.{context_of};
+ghost use Rattle.first_pass_tree.specs.Forest.{in_table};
+ghost use Rattle.std.specs.Prelude.{◌≡◌, ◌+◌, ◌<◌, drop, None, IfOk, IfSome, OnErr, IsSomeAnd, MatchOption, IsCharBoundary, true};
 
 use crate::label::parse_refdef_label;
 use crate::target::scan_refdef;

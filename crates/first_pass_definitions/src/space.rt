@@ -1,10 +1,10 @@
 //! The white space of a link reference definition.
 
-ghost use Rattle.std.specs.Prelude.{◌≡◌, ◌+◌, drop, true, IfOk, IfSome, OnErr, IsCharBoundary};
-ghost use Rattle.std.specs.Option.{option_map};
+ghost use Rattle.first_pass_definitions.specs.Memory.{space_asks};
 ghost use Rattle.first_pass_grammar.specs.Definitions.{space_at};
 ghost use Rattle.first_pass_open.specs.Path.{context_of};
-ghost use Rattle.first_pass_definitions.specs.Memory.{space_asks};
+ghost use Rattle.std.specs.Option.{option_map};
+ghost use Rattle.std.specs.Prelude.{◌≡◌, ◌+◌, drop, true, IfOk, IfSome, OnErr, IsCharBoundary};
 
 use first_pass_items::item::Item;
 use first_pass_kinds::interrupt::scan_line_crossed;

@@ -1,17 +1,17 @@
 //! The part of a link reference definition after its colon.
 
-ghost use Rattle.std.specs.Prelude.{◌≡◌, ℕ, ◌+◌, ◌≤◌, List, Option, drop, None, Some, IfOk, IfSome, OnErr, true, ◌⊎◌, IsSomeAnd, MatchOption, IsCharBoundary};
-ghost use Rattle.std.specs.Box.{boxed_str_bytes};
-ghost use Rattle.first_pass_items.specs.CowText.{text_of};
-ghost use Rattle.first_pass_tree.specs.Forest.{in_table};
-ghost use Rattle.first_pass_grammar.specs.Definitions.{target_at, after_destination, title_after, title_distance};
-ghost use Rattle.first_pass_links.specs.Escapes.{unescaped};
-ghost use Rattle.first_pass_open.specs.Path.{context_of};
 ghost use Rattle.first_pass_definitions.specs.Found.{AreInOrder, HasTitle, IsTarget};
-ghost use Rattle.std.specs.List.{list_any};
-ghost use Rattle.first_pass_lines.specs.Lines.{is_line_end};
 ghost use Rattle.first_pass_definitions.specs.Memory.{IsEscaped, TargetAsks, after_asks};
 ghost use Rattle.first_pass_definitions.specs.Reading.{IsReadText, IsReadTitle};
+ghost use Rattle.first_pass_grammar.specs.Definitions.{target_at, after_destination, title_after, title_distance};
+ghost use Rattle.first_pass_items.specs.CowText.{text_of};
+ghost use Rattle.first_pass_lines.specs.Lines.{is_line_end};
+ghost use Rattle.first_pass_links.specs.Escapes.{unescaped};
+ghost use Rattle.first_pass_open.specs.Path.{context_of};
+ghost use Rattle.first_pass_tree.specs.Forest.{in_table};
+ghost use Rattle.std.specs.Box.{boxed_str_bytes};
+ghost use Rattle.std.specs.List.{list_any};
+ghost use Rattle.std.specs.Prelude.{◌≡◌, ℕ, ◌+◌, ◌≤◌, List, Option, drop, None, Some, IfOk, IfSome, OnErr, true, ◌⊎◌, IsSomeAnd, MatchOption, IsCharBoundary};
 
 use crate::space::scan_refdef_space;
 use crate::title::scan_refdef_title;

@@ -1,23 +1,23 @@
 //! The title of a link reference definition.
 
-ghost use Rattle.std.specs.Prelude.{◌≡◌, ℕ, ◌+◌, ◌<◌, ◌≤◌, ◌++◌, ◌||◌, length, slice_index, drop, None, Some, [], true, slice_get, IfOk, IfSome, OnErr, IsSomeAnd, MatchOption, IsCharBoundary, IsUtf8, false};
+ghost use Rattle.first_pass_definitions.specs.Memory.{title_asks, text_asks};
+ghost use Rattle.first_pass_definitions.specs.Reading.{ClosesTitle, stops_title_line, is_title_text, goes_on_at};
+ghost use Rattle.first_pass_entities.specs.Texts.{Borrows};
+ghost use Rattle.first_pass_grammar.specs.Definitions.{title_at, title_end, title_text, title_prefix};
+ghost use Rattle.first_pass_items.specs.Bytes.{line_feed};
+ghost use Rattle.first_pass_items.specs.CowText.{text_of};
+ghost use Rattle.first_pass_kinds.specs.Memory.{line_may_head_table};
+ghost use Rattle.first_pass_kinds.specs.Rests.{IsRestOf};
+ghost use Rattle.first_pass_lines.specs.Lanes.{IsRunIn};
+ghost use Rattle.first_pass_lines.specs.Lines.{is_line_end, begins, blank_len, eol_len};
+ghost use Rattle.first_pass_lines.specs.Places.{line_rest};
+ghost use Rattle.first_pass_links.specs.Destinations.{unescaped_upto};
+ghost use Rattle.first_pass_links.specs.Units.{part};
+ghost use Rattle.first_pass_open.specs.Path.{context_of};
 ghost use Rattle.std.specs.List.{list_any};
 ghost use Rattle.std.specs.Option.{option_and_then, option_map_or};
+ghost use Rattle.std.specs.Prelude.{◌≡◌, ℕ, ◌+◌, ◌<◌, ◌≤◌, ◌++◌, ◌||◌, length, slice_index, drop, None, Some, [], true, slice_get, IfOk, IfSome, OnErr, IsSomeAnd, MatchOption, IsCharBoundary, IsUtf8, false};
 ghost use Rattle.std.specs.String.{string_bytes};
-ghost use Rattle.first_pass_items.specs.CowText.{text_of};
-ghost use Rattle.first_pass_lines.specs.Lines.{is_line_end, begins, blank_len, eol_len};
-ghost use Rattle.first_pass_lines.specs.Lanes.{IsRunIn};
-ghost use Rattle.first_pass_links.specs.Destinations.{unescaped_upto};
-ghost use Rattle.first_pass_entities.specs.Texts.{Borrows};
-ghost use Rattle.first_pass_links.specs.Units.{part};
-ghost use Rattle.first_pass_items.specs.Bytes.{line_feed};
-ghost use Rattle.first_pass_definitions.specs.Reading.{ClosesTitle, stops_title_line, is_title_text, goes_on_at};
-ghost use Rattle.first_pass_grammar.specs.Definitions.{title_at, title_end, title_text, title_prefix};
-ghost use Rattle.first_pass_open.specs.Path.{context_of};
-ghost use Rattle.first_pass_kinds.specs.Rests.{IsRestOf};
-ghost use Rattle.first_pass_lines.specs.Places.{line_rest};
-ghost use Rattle.first_pass_kinds.specs.Memory.{line_may_head_table};
-ghost use Rattle.first_pass_definitions.specs.Memory.{title_asks, text_asks};
 
 use first_pass_items::cow_str::CowStr;
 use first_pass_items::item::Item;

@@ -1,12 +1,12 @@
 //! Entity and numeric character references (CommonMark 2.5).
 
-ghost use Rattle.std.specs.List.{prefix_len};
-ghost use Rattle.std.specs.Prelude.{◌≡◌, ◌≤◌, length, encode_utf8, IfSome, IsSomeAnd, MatchOption, None};
-ghost use Rattle.std.specs.Char.{digit_value, is_ascii_digit, is_ascii_hexdigit, is_ascii_alphabetic};
-ghost use Rattle.std.specs.Str.Parse.{digits_value};
-ghost use Rattle.first_pass_items.specs.CowText.{text_of};
 ghost use Rattle.first_pass_entities.specs.Entities.{referred, number_at, numeric_at, named_in_xml, named_sign, named_punctuation, named, name_at, entity_at};
 ghost use Rattle.first_pass_entities.specs.Texts.{TakesNoMemory};
+ghost use Rattle.first_pass_items.specs.CowText.{text_of};
+ghost use Rattle.std.specs.Char.{digit_value, is_ascii_digit, is_ascii_hexdigit, is_ascii_alphabetic};
+ghost use Rattle.std.specs.List.{prefix_len};
+ghost use Rattle.std.specs.Prelude.{◌≡◌, ◌≤◌, length, encode_utf8, IfSome, IsSomeAnd, MatchOption, None};
+ghost use Rattle.std.specs.Str.Parse.{digits_value};
 
 use first_pass_items::cow_str::{CowStr, InlineStr};
 use first_pass_lines::lines::begins;

@@ -1,14 +1,14 @@
 //! Laws: what exists for every text.
 
-ghost use Rattle.std.specs.Prelude.{◌≡◌, ℕ, List, length};
+ghost use Rattle.first_pass_grammar.specs.Completion.{Unfinished, Frame, containers_of, Completes, CanGoOn, Completion};
+ghost use Rattle.first_pass_grammar.specs.Derivation.{Derives, Tables};
+ghost use Rattle.first_pass_grammar.specs.Leaves.{Document, document};
+ghost use Rattle.first_pass_grammar.specs.Names.{Names, Extends};
+ghost use Rattle.first_pass_grammar.specs.Skeleton.{Continues};
 ghost use Rattle.first_pass_items.specs.declared.item.Item.{Item};
 ghost use Rattle.first_pass_items.specs.declared.option_set.Options.{Options};
 ghost use Rattle.first_pass_lines.specs.Places.{Place};
-ghost use Rattle.first_pass_grammar.specs.Names.{Names, Extends};
-ghost use Rattle.first_pass_grammar.specs.Leaves.{Document, document};
-ghost use Rattle.first_pass_grammar.specs.Skeleton.{Continues};
-ghost use Rattle.first_pass_grammar.specs.Derivation.{Derives, Tables};
-ghost use Rattle.first_pass_grammar.specs.Completion.{Unfinished, Frame, containers_of, Completes, CanGoOn, Completion};
+ghost use Rattle.std.specs.Prelude.{◌≡◌, ℕ, List, length};
 
 /// Every text has a derived tree under each set of options, since any sequence of characters is a document (CommonMark
 /// 2.1). The tree's indices have names that extend any given names.

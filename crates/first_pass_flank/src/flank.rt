@@ -1,9 +1,9 @@
 //! Delimiter runs between characters: whether they can open or close.
 
-ghost use Rattle.std.specs.Prelude.{◌≡◌, ◌≤◌, length, slice_index, IsCharBoundary};
-ghost use Rattle.first_pass_items.specs.Bytes.{asterisk, underscore};
 ghost use Rattle.first_pass_flank.specs.Flank as flanks;
 ghost use Rattle.first_pass_flank.specs.Flanking.{is_left_flanking, is_right_flanking, underscore_opens, underscore_closes, GoesBy};
+ghost use Rattle.first_pass_items.specs.Bytes.{asterisk, underscore};
+ghost use Rattle.std.specs.Prelude.{◌≡◌, ◌≤◌, length, slice_index, IsCharBoundary};
 
 use unicode::properties::{GeneralCategory, GeneralCategoryGroup};
 

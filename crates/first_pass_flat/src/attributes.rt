@@ -1,13 +1,13 @@
 //! The attributes of headings.
 
-ghost use Rattle.std.specs.Prelude.{◌≡◌, ◌<◌, ◌^◌, ◌∷◌, [], length, map, OnOk, is_some, unwrap_or};
-ghost use Rattle.std.specs.List.{flat_map};
-ghost use Rattle.std.specs.Option.{option_map};
 ghost use Rattle.first_pass_attributes.specs.Attributes.{attributes_in, no_attributes, pair_in};
-ghost use Rattle.first_pass_names.specs.TableEntries.{names_of};
+ghost use Rattle.first_pass_flat.specs.Appended.{AppendsAttributes};
 ghost use Rattle.first_pass_flat.specs.FlatAttributes.{attributes_by, attributes_of_body, class_attribute, heading_index, id_attributes, key_attribute, attribute_kind, listed};
 ghost use Rattle.first_pass_flat.specs.Kinds.{flag};
-ghost use Rattle.first_pass_flat.specs.Appended.{AppendsAttributes};
+ghost use Rattle.first_pass_names.specs.TableEntries.{names_of};
+ghost use Rattle.std.specs.List.{flat_map};
+ghost use Rattle.std.specs.Option.{option_map};
+ghost use Rattle.std.specs.Prelude.{◌≡◌, ◌<◌, ◌^◌, ◌∷◌, [], length, map, OnOk, is_some, unwrap_or};
 
 use crate::fault::append_record;
 use crate::names::append_text;

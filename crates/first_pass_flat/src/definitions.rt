@@ -1,12 +1,12 @@
 //! Link definitions and the labels of footnotes.
 
-ghost use Rattle.std.specs.Prelude.{◌≡◌, ◌∷◌, [], map, OnOk, is_some, unwrap_or};
-ghost use Rattle.std.specs.Option.{option_map};
+ghost use Rattle.first_pass_flat.specs.Appended.{AppendsDefinitions};
+ghost use Rattle.first_pass_flat.specs.FlatDefinitions.{label_entry};
+ghost use Rattle.first_pass_flat.specs.Kinds.{flag};
 ghost use Rattle.first_pass_items.specs.CowText.{text_of};
 ghost use Rattle.first_pass_names.specs.TableEntries.{footnote_label, link_entry};
-ghost use Rattle.first_pass_flat.specs.Appended.{AppendsDefinitions};
-ghost use Rattle.first_pass_flat.specs.Kinds.{flag};
-ghost use Rattle.first_pass_flat.specs.FlatDefinitions.{label_entry};
+ghost use Rattle.std.specs.Option.{option_map};
+ghost use Rattle.std.specs.Prelude.{◌≡◌, ◌∷◌, [], map, OnOk, is_some, unwrap_or};
 
 use crate::fault::append_record;
 use crate::names::append_text;

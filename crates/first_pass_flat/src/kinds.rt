@@ -1,7 +1,7 @@
 //! The kinds of nodes, as numbers.
 
-ghost use Rattle.std.specs.Prelude.{◌≡◌};
 ghost use Rattle.first_pass_flat.specs.Kinds.{alignment_byte, kind_number, metadata_number, of_first, of_flags, of_number, quote_number, values_of};
+ghost use Rattle.std.specs.Prelude.{◌≡◌};
 
 use bitflags::Flags;
 use first_pass_items::item::{Alignment, BlockQuoteKind, ItemBody, MetadataBlockKind};

@@ -1,11 +1,11 @@
 //! The bytes that nodes name, and how texts are appended to the names.
 
-ghost use Rattle.std.specs.Prelude.{◌≡◌, ◌++◌, [], false, length, map, IfOk, OnOk};
-ghost use Rattle.std.specs.List.{flat_map};
+ghost use Rattle.first_pass_flat.specs.FlatNodes.{name_by, name_of};
+ghost use Rattle.first_pass_flat.specs.Kinds.{alignment_byte};
 ghost use Rattle.first_pass_grammar.specs.Names.{Names};
 ghost use Rattle.first_pass_names.specs.TableEntries.{names_of};
-ghost use Rattle.first_pass_flat.specs.Kinds.{alignment_byte};
-ghost use Rattle.first_pass_flat.specs.FlatNodes.{name_by, name_of};
+ghost use Rattle.std.specs.List.{flat_map};
+ghost use Rattle.std.specs.Prelude.{◌≡◌, ◌++◌, [], false, length, map, IfOk, OnOk};
 
 use crate::kinds::alignment_byte;
 use first_pass_items::item::{Alignment, Item, ItemBody};

@@ -1,9 +1,5 @@
 //! The nodes of the flat form.
 
-ghost use Rattle.std.specs.Prelude.{◌≡◌, ◌≤◌, ◌<◌, ◌+◌, ℕ, List, length, drop, All, IfOk, IsErr, OnOk};
-ghost use Rattle.std.specs.List.{flat_map};
-ghost use Rattle.first_pass_items.specs.declared.item.Item.{Item};
-ghost use Rattle.first_pass_names.specs.TableEntries.{names_of};
 ghost use Rattle.first_pass_flat.specs.FlatAttributes.{attributes_by, attributes_of_body};
 ghost use Rattle.first_pass_flat.specs.FlatForm.{node_names};
 ghost use Rattle.first_pass_flat.specs.FlatNodes.{IsShort, deeper_before, first_place, flat_node, flat_nodes, name_of, named_at, named_length, place_after};
@@ -11,6 +7,10 @@ ghost use Rattle.first_pass_flat.specs.Kinds.{values_of};
 ghost use Rattle.first_pass_flat.specs.Linked.{AreLinked, depth_at};
 ghost use Rattle.first_pass_flat.specs.WrittenNodes.{HasNameAndNext, IsRecordWritten, NamesNothing, NeedsMoreBits};
 ghost use Rattle.first_pass_grammar.specs.Names.{Names};
+ghost use Rattle.first_pass_items.specs.declared.item.Item.{Item};
+ghost use Rattle.first_pass_names.specs.TableEntries.{names_of};
+ghost use Rattle.std.specs.List.{flat_map};
+ghost use Rattle.std.specs.Prelude.{◌≡◌, ◌≤◌, ◌<◌, ◌+◌, ℕ, List, length, drop, All, IfOk, IsErr, OnOk};
 
 use crate::attributes::attribute_count;
 use crate::fault::{TooLong, bound_of_both};

@@ -1,8 +1,8 @@
 //! The parts of the flat form other than its nodes.
 
-ghost use Rattle.std.specs.Prelude.{IfOk};
-ghost use Rattle.first_pass_names.specs.TableEntries.{names_of, tables_of};
 ghost use Rattle.first_pass_flat.specs.Side.{AreSideTables};
+ghost use Rattle.first_pass_names.specs.TableEntries.{names_of, tables_of};
+ghost use Rattle.std.specs.Prelude.{IfOk};
 
 use crate::attributes::NamedAttributes;
 use crate::definitions::NamedDefinitions;

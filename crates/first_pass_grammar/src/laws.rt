@@ -1,17 +1,17 @@
 //! Laws of the grammar.
 
-ghost use Rattle.std.specs.Prelude.{◌≡◌, ◌∷◌, [], ℕ, List};
-ghost use Rattle.std.specs.List.Sorted.{IsStrictlySortedBy};
-ghost use Rattle.first_pass_items.specs.declared.item.AlignmentIndex.{AlignmentIndex};
-ghost use Rattle.first_pass_items.specs.declared.item.ItemBody.TheVariants.{Table, TableHead};
-ghost use Rattle.first_pass_items.specs.declared.item.Item.{Item};
-ghost use Rattle.first_pass_items.specs.declared.option_set.Options.{Options};
-ghost use Rattle.first_pass_grammar.specs.Names.{Names, read_nodes};
-ghost use Rattle.first_pass_grammar.specs.Leaves.{document};
 ghost use Rattle.first_pass_grammar.specs.Derivation.{Derives, Tables};
+ghost use Rattle.first_pass_grammar.specs.Leaves.{document};
 ghost use Rattle.first_pass_grammar.specs.LinkTables.{LinkEntry, folded_cmp, with_links, link_under, IsInFoldedOrder};
 ghost use Rattle.first_pass_grammar.specs.LinkTables.{with_labels, label_under};
+ghost use Rattle.first_pass_grammar.specs.Names.{Names, read_nodes};
 ghost use Rattle.first_pass_grammar.specs.WholeTables.{AreWholeTables};
+ghost use Rattle.first_pass_items.specs.declared.item.AlignmentIndex.{AlignmentIndex};
+ghost use Rattle.first_pass_items.specs.declared.item.Item.{Item};
+ghost use Rattle.first_pass_items.specs.declared.item.ItemBody.TheVariants.{Table, TableHead};
+ghost use Rattle.first_pass_items.specs.declared.option_set.Options.{Options};
+ghost use Rattle.std.specs.List.Sorted.{IsStrictlySortedBy};
+ghost use Rattle.std.specs.Prelude.{◌≡◌, ◌∷◌, [], ℕ, List};
 
 /// Any two trees that are derived from a text under the same options are equal, read through their indices, and so are
 /// their tables.

@@ -1,8 +1,8 @@
 //! The exit status of a program.
 
+ghost use Rattle.first_pass_host.specs.Faults.{status_of};
 ghost use Rattle.std.specs.Prelude.{◌≡◌, OnOk, IfErr};
 ghost use Rattle.std.specs.Process.{exit_status};
-ghost use Rattle.first_pass_host.specs.Faults.{status_of};
 
 use crate::fault::RunFault;
 use std::process::ExitCode;

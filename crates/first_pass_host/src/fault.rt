@@ -1,8 +1,8 @@
 //! The faults that end a run before its whole output.
 
-ghost use Rattle.std.specs.Prelude.{◌≡◌};
 ghost use Rattle.first_pass_host.specs.declared.fault.RunFault.TheVariants.{OutOfMemory};
 ghost use Rattle.first_pass_host.specs.Faults.{message_of, status_of};
+ghost use Rattle.std.specs.Prelude.{◌≡◌};
 
 use std::alloc::AllocError;
 

@@ -1,7 +1,7 @@
 //! The whole input.
 
-ghost use Rattle.std.specs.Prelude.{IfOk, IfErr};
 ghost use Rattle.first_pass_host.specs.Streams.{ReadsWhole, IsReadFault};
+ghost use Rattle.std.specs.Prelude.{IfOk, IfErr};
 
 use crate::fault::RunFault;
 use std::alloc::Global;

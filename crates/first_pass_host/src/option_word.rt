@@ -1,8 +1,8 @@
 //! The word for the options.
 
-ghost use Rattle.std.specs.Prelude.{◌≡◌, ◌==◌, ℕ, IfSome, IsNone, slice_index};
-ghost use Rattle.first_pass_items.specs.Bytes.{plus_sign};
 ghost use Rattle.first_pass_host.specs.OptionWord.{WordsMean, WordMeans};
+ghost use Rattle.first_pass_items.specs.Bytes.{plus_sign};
+ghost use Rattle.std.specs.Prelude.{◌≡◌, ◌==◌, ℕ, IfSome, IsNone, slice_index};
 
 use bitflags::Flags;
 use first_pass_items::option_set::Options;

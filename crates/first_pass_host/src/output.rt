@@ -1,11 +1,11 @@
 //! Writing a text, and lines in pieces.
 
-ghost use Rattle.std.specs.Iterator.{IsFinite};
-ghost use Rattle.std.specs.Prelude.{◌≡◌, ◌<◌, ℕ, List, [], length, IfErr, OnErr, OnOk};
-ghost use Rattle.std.specs.Io.KnownBytes.{Appends};
 ghost use Rattle.first_pass_host.specs.declared.fault.RunFault.TheVariants.{WriteFailed};
 ghost use Rattle.first_pass_host.specs.Held.{AreItemLines, IsPartlyWritten};
 ghost use Rattle.first_pass_host.specs.Streams.{AppendsFront, WritesText, stream_between};
+ghost use Rattle.std.specs.Io.KnownBytes.{Appends};
+ghost use Rattle.std.specs.Iterator.{IsFinite};
+ghost use Rattle.std.specs.Prelude.{◌≡◌, ◌<◌, ℕ, List, [], length, IfErr, OnErr, OnOk};
 
 use crate::fault::RunFault;
 use std::alloc::{AllocError, Global};

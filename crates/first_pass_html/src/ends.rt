@@ -1,8 +1,8 @@
 //! The end conditions of HTML blocks of types 1 to 5.
 
-ghost use Rattle.std.specs.Prelude.{◌≡◌, ◌∷◌};
-ghost use Rattle.first_pass_items.specs.Bytes.{less_than};
 ghost use Rattle.first_pass_html.specs.Ends as ends;
+ghost use Rattle.first_pass_items.specs.Bytes.{less_than};
+ghost use Rattle.std.specs.Prelude.{◌≡◌, ◌∷◌};
 
 use crate::names::begins_with_name;
 use first_pass_lines::places::rest_of;

@@ -1,8 +1,8 @@
 //! The names of tags that begin HTML blocks.
 
-ghost use Rattle.std.specs.Prelude.{◌≡◌, ◌↔◌, IsTrue, map};
-ghost use Rattle.first_pass_html.specs.Names.{borrowed_bytes};
 ghost use Rattle.first_pass_html.specs.Names as names;
+ghost use Rattle.first_pass_html.specs.Names.{borrowed_bytes};
+ghost use Rattle.std.specs.Prelude.{◌≡◌, ◌↔◌, IsTrue, map};
 
 // The tag names of start condition 6 of HTML blocks, by their first letter (CommonMark 4.6). A name comes before its
 // own prefixes, so the first name that matches is the longest.

@@ -1,11 +1,11 @@
 //! The start conditions of HTML blocks of types 1 to 6.
 
-ghost use Rattle.std.specs.Prelude.{◌≡◌, ◌↔◌, IsTrue, ◌∷◌, bytes_eq};
-ghost use Rattle.std.specs.Option.{option_map};
-ghost use Rattle.first_pass_items.specs.Bytes.{exclamation_mark};
 ghost use Rattle.first_pass_html.specs.Ends.{condition_of};
 ghost use Rattle.first_pass_html.specs.Names.{in_lower_case};
 ghost use Rattle.first_pass_html.specs.Starts as starts;
+ghost use Rattle.first_pass_items.specs.Bytes.{exclamation_mark};
+ghost use Rattle.std.specs.Option.{option_map};
+ghost use Rattle.std.specs.Prelude.{◌≡◌, ◌↔◌, IsTrue, ◌∷◌, bytes_eq};
 
 use crate::ends::HtmlEnd;
 use crate::names::{begins_with_name, block_name_len};

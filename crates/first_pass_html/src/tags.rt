@@ -1,10 +1,10 @@
 //! Tags that begin HTML blocks of the seventh kind.
 
-ghost use Rattle.std.specs.Prelude.{◌≡◌, ◌<◌, ◌≤◌, ◌+◌, ℕ, length, IfSome, IfNone};
-ghost use Rattle.std.specs.List.{prefix_len};
-ghost use Rattle.first_pass_html.specs.Tags as tags;
-ghost use Rattle.first_pass_html.specs.TagLengths as lengths;
 ghost use Rattle.first_pass_html.specs.Fronts.{IsOnlyFront, HasNoFront, IsPastAttributes};
+ghost use Rattle.first_pass_html.specs.TagLengths as lengths;
+ghost use Rattle.first_pass_html.specs.Tags as tags;
+ghost use Rattle.std.specs.List.{prefix_len};
+ghost use Rattle.std.specs.Prelude.{◌≡◌, ◌<◌, ◌≤◌, ◌+◌, ℕ, length, IfSome, IfNone};
 
 use crate::starts::is_raw_name;
 use first_pass_lines::lines::{begins, scan_blank_line, scan_blanks};

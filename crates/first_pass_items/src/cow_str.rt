@@ -1,7 +1,7 @@
 //! Strings that are borrowed from the text if they are slices of it.
 
-ghost use Rattle.std.specs.Prelude.{◌≡◌, ◌≤◌, ◌↔◌, length, IsSome, IfSome, encode_utf8};
 ghost use Rattle.first_pass_items.specs.CowText.{text_of};
+ghost use Rattle.std.specs.Prelude.{◌≡◌, ◌≤◌, ◌↔◌, length, IsSome, IfSome, encode_utf8};
 
 use std::boxed::BoxedStr;
 use std::marker::Model;

@@ -1,7 +1,7 @@
 //! An array of values.
 
-ghost use Rattle.std.specs.Prelude.{◌≡◌, ◌++◌, ℕ, List, OnOk};
 ghost use Rattle.first_pass_json.specs.JsonValues.{after_commas, array, with_commas};
+ghost use Rattle.std.specs.Prelude.{◌≡◌, ◌++◌, ℕ, List, OnOk};
 
 use std::alloc::AllocError;
 

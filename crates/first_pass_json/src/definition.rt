@@ -1,11 +1,11 @@
 //! The lines of link definitions and of footnotes' labels.
 
-ghost use Rattle.std.specs.Option.{option_map};
-ghost use Rattle.std.specs.Prelude.{◌≡◌, ◌++◌, OnOk, codes};
 ghost use Rattle.first_pass_items.specs.CowText.{text_of};
-ghost use Rattle.first_pass_names.specs.TableEntries.{link_entry};
 ghost use Rattle.first_pass_json.specs.JsonLines.{definition_line, footnote_line, link_members, target_members};
 ghost use Rattle.first_pass_json.specs.JsonValues.{text_or_null};
+ghost use Rattle.first_pass_names.specs.TableEntries.{link_entry};
+ghost use Rattle.std.specs.Option.{option_map};
+ghost use Rattle.std.specs.Prelude.{◌≡◌, ◌++◌, OnOk, codes};
 
 use crate::node::append_range;
 use crate::values::{append_string, append_string_after};

@@ -1,10 +1,10 @@
 //! The members of a heading.
 
-ghost use Rattle.std.specs.Option.{option_map};
-ghost use Rattle.std.specs.Prelude.{◌≡◌, ◌++◌, OnOk, map, unwrap_or};
 ghost use Rattle.first_pass_attributes.specs.Attributes.{attributes_in, no_attributes, pair_in};
 ghost use Rattle.first_pass_json.specs.JsonValues.{array, json_string};
 ghost use Rattle.first_pass_json.specs.Members.{attribute_members, heading_members, pair};
+ghost use Rattle.std.specs.Option.{option_map};
+ghost use Rattle.std.specs.Prelude.{◌≡◌, ◌++◌, OnOk, map, unwrap_or};
 
 use crate::array::{ArrayValue, append_array};
 use crate::values::{append_number_after, append_string, append_string_or_null};

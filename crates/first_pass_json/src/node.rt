@@ -1,11 +1,11 @@
 //! The line of a node.
 
-ghost use Rattle.std.specs.Prelude.{◌≡◌, ◌++◌, OnOk, codes, decimal};
-ghost use Rattle.first_pass_names.specs.TableEntries.{names_of};
 ghost use Rattle.first_pass_json.specs.JsonLines.{node_line, node_members, range_members};
 ghost use Rattle.first_pass_json.specs.JsonValues.{boolean, word};
 ghost use Rattle.first_pass_json.specs.Members.{block_members, character_of, is_tight, quote_or_null};
+ghost use Rattle.first_pass_names.specs.TableEntries.{names_of};
 ghost use Rattle.first_pass_printed.specs.Printed.{metadata_name};
+ghost use Rattle.std.specs.Prelude.{◌≡◌, ◌++◌, OnOk, codes, decimal};
 
 use crate::heading::append_heading;
 use crate::table::append_alignments;

@@ -1,8 +1,8 @@
 //! The alignments of a table's columns (GFM 4.10).
 
-ghost use Rattle.std.specs.Prelude.{◌≡◌, ◌++◌, OnOk};
 ghost use Rattle.first_pass_json.specs.JsonValues.{array};
 ghost use Rattle.first_pass_json.specs.Members.{alignment_word};
+ghost use Rattle.std.specs.Prelude.{◌≡◌, ◌++◌, OnOk};
 
 use crate::array::{ArrayValue, append_array};
 use first_pass_items::item::Alignment;

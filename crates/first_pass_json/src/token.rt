@@ -1,10 +1,10 @@
 //! The members of a token.
 
-ghost use Rattle.std.specs.Prelude.{◌≡◌, ◌++◌, OnOk, codes, decimal, encode_utf8};
 ghost use Rattle.first_pass_items.specs.declared.item.ItemBody.TheVariants.{MaybeEmphasis, MaybeMath, MaybeSmartQuote, MaybeCode};
-ghost use Rattle.first_pass_names.specs.TableEntries.{names_of};
 ghost use Rattle.first_pass_json.specs.JsonValues.{boolean, json_string};
 ghost use Rattle.first_pass_json.specs.Members.{character_of, token_members};
+ghost use Rattle.first_pass_names.specs.TableEntries.{names_of};
+ghost use Rattle.std.specs.Prelude.{◌≡◌, ◌++◌, OnOk, codes, decimal, encode_utf8};
 
 use crate::values::{
     append_byte, append_character, append_flag_after, append_number_after, append_string_after,

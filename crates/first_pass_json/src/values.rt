@@ -1,9 +1,9 @@
 //! Values in lines of JSON.
 
-ghost use Rattle.std.specs.Option.{option_map};
-ghost use Rattle.std.specs.Prelude.{◌≡◌, ◌++◌, OnOk, encode_utf8};
 ghost use Rattle.first_pass_json.specs.JsonValues.{boolean, json_string, text_or_null, word};
 ghost use Rattle.first_pass_json.specs.Members.{character_of};
+ghost use Rattle.std.specs.Option.{option_map};
+ghost use Rattle.std.specs.Prelude.{◌≡◌, ◌++◌, OnOk, encode_utf8};
 
 use first_pass_printed::node::{append_number, flag_name};
 use itoa::Integer;

@@ -1,25 +1,25 @@
 //! Which lines interrupt a paragraph or end a link reference definition, and the role of a line after paragraph text.
 
-ghost use Rattle.std.specs.Prelude.{◌≡◌, Bool, min, drop, is_some, nat_lt, ◌&&◌, ◌||◌, not, true, false, IfOk, IfSome, OnErr, OnOk, Some, None, if◌then◌else◌, IsUtf8, IsCharBoundary};
+ghost use Rattle.first_pass_grammar.specs.Containers.{after, front};
+ghost use Rattle.first_pass_grammar.specs.Definitions.{is_underline, crossed};
+ghost use Rattle.first_pass_grammar.specs.Kinds.{all_taken, interrupts_with, continued, interrupts_in, interrupts, item_interrupts, is_ordinary_after_tag, unindented};
 ghost use Rattle.first_pass_items.specs.Bytes.{space, colon};
 ghost use Rattle.first_pass_items.specs.OptionWords.{has, definition_list};
+ghost use Rattle.first_pass_kinds.specs.declared.interrupt.NextLine.TheVariants.{NotText};
+ghost use Rattle.first_pass_kinds.specs.Fronts.{IsFrontAt, KnowsFront};
+ghost use Rattle.first_pass_kinds.specs.Marks.{begins_no_interruption_by_standard};
+ghost use Rattle.first_pass_kinds.specs.Memory.{may_head_table, line_may_head_table};
+ghost use Rattle.first_pass_kinds.specs.NextLines.{next_line_of};
 ghost use Rattle.first_pass_lines.specs.Lines.{begins, at_line_end};
-ghost use Rattle.first_pass_lines.specs.Plain.{begins_plain};
 ghost use Rattle.first_pass_lines.specs.Places.{line_rest, place_at, IsPlaceOf};
+ghost use Rattle.first_pass_lines.specs.Plain.{begins_plain};
 ghost use Rattle.first_pass_lines.specs.Rest.{indent};
+ghost use Rattle.first_pass_links.specs.Footnotes.{footnote_head};
+ghost use Rattle.first_pass_open.specs.Path.{path_of, context_of, continued_to};
 ghost use Rattle.first_pass_scan.specs.LeafLines.{setext_underline};
 ghost use Rattle.first_pass_scan.specs.Markers.{is_bullet, bullet_marker, listitem};
-ghost use Rattle.first_pass_links.specs.Footnotes.{footnote_head};
-ghost use Rattle.first_pass_grammar.specs.Containers.{after, front};
-ghost use Rattle.first_pass_grammar.specs.Kinds.{all_taken, interrupts_with, continued, interrupts_in, interrupts, item_interrupts, is_ordinary_after_tag, unindented};
-ghost use Rattle.first_pass_grammar.specs.Definitions.{is_underline, crossed};
-ghost use Rattle.first_pass_open.specs.Path.{path_of, context_of, continued_to};
-ghost use Rattle.first_pass_kinds.specs.Marks.{begins_no_interruption_by_standard};
-ghost use Rattle.first_pass_kinds.specs.NextLines.{next_line_of};
-ghost use Rattle.first_pass_kinds.specs.Fronts.{IsFrontAt, KnowsFront};
-ghost use Rattle.first_pass_kinds.specs.declared.interrupt.NextLine.TheVariants.{NotText};
-ghost use Rattle.first_pass_kinds.specs.Memory.{may_head_table, line_may_head_table};
 ghost use Rattle.std.specs.Option.{option_map};
+ghost use Rattle.std.specs.Prelude.{◌≡◌, Bool, min, drop, is_some, nat_lt, ◌&&◌, ◌||◌, not, true, false, IfOk, IfSome, OnErr, OnOk, Some, None, if◌then◌else◌, IsUtf8, IsCharBoundary};
 
 use crate::kinds::html_kind;
 use crate::next_front::NextFront;

@@ -1,13 +1,13 @@
 //! The block that begins at a place in a line.
 
-ghost use Rattle.std.specs.Prelude.{◌≡◌, ◌+◌, ◌≤◌, min, length, drop, Some, None, IfSome};
-ghost use Rattle.std.specs.Option.{option_map};
-ghost use Rattle.first_pass_lines.specs.Lines.{atx_level};
-ghost use Rattle.first_pass_lines.specs.Rest.{indent};
-ghost use Rattle.first_pass_lines.specs.Places.{IsPlaceOf};
-ghost use Rattle.first_pass_metadata.specs.MetadataSearch.{IsKnownOf};
 ghost use Rattle.first_pass_grammar.specs.Kinds.{html_kind, later_kind, metadata_at, IsKind, unindented};
 ghost use Rattle.first_pass_kinds.specs.BlockStart.{kind_of, IsFoundWithCondition};
+ghost use Rattle.first_pass_lines.specs.Lines.{atx_level};
+ghost use Rattle.first_pass_lines.specs.Places.{IsPlaceOf};
+ghost use Rattle.first_pass_lines.specs.Rest.{indent};
+ghost use Rattle.first_pass_metadata.specs.MetadataSearch.{IsKnownOf};
+ghost use Rattle.std.specs.Option.{option_map};
+ghost use Rattle.std.specs.Prelude.{◌≡◌, ◌+◌, ◌≤◌, min, length, drop, Some, None, IfSome};
 
 use bitflags::Flags;
 use first_pass_html::ends::HtmlEnd;

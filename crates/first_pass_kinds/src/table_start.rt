@@ -1,15 +1,15 @@
 //! The lines that head a table (GFM 4.10).
 
-ghost use Rattle.std.specs.Prelude.{◌≡◌, ◌≤◌, ◌+◌, ◌==◌, ◌&&◌, ◌||◌, not, length, drop, true, IfOk, IfSome, OnOk, OnErr, IsUtf8, IsCharBoundary};
-ghost use Rattle.std.specs.List.{suffix_len};
-ghost use Rattle.std.specs.Option.{option_map};
-ghost use Rattle.first_pass_items.specs.Bytes.{backslash, colon, pipe};
-ghost use Rattle.first_pass_lines.specs.Lines.{begins};
-ghost use Rattle.first_pass_lines.specs.Plain.{begins_inert};
 ghost use Rattle.first_pass_grammar.specs.TableHeads.{table_at, table_interrupts, ends_in_backslash, headed_table};
-ghost use Rattle.first_pass_open.specs.Path.{path_of, context_of};
+ghost use Rattle.first_pass_items.specs.Bytes.{backslash, colon, pipe};
 ghost use Rattle.first_pass_kinds.specs.Memory.{may_head_table};
 ghost use Rattle.first_pass_kinds.specs.TableHeads.{table_head_len};
+ghost use Rattle.first_pass_lines.specs.Lines.{begins};
+ghost use Rattle.first_pass_lines.specs.Plain.{begins_inert};
+ghost use Rattle.first_pass_open.specs.Path.{path_of, context_of};
+ghost use Rattle.std.specs.List.{suffix_len};
+ghost use Rattle.std.specs.Option.{option_map};
+ghost use Rattle.std.specs.Prelude.{◌≡◌, ◌≤◌, ◌+◌, ◌==◌, ◌&&◌, ◌||◌, not, length, drop, true, IfOk, IfSome, OnOk, OnErr, IsUtf8, IsCharBoundary};
 
 use bitflags::Flags;
 use first_pass_items::item::{Alignment, Item};

@@ -1,10 +1,10 @@
 //! The stored folding of a label.
 
-ghost use Rattle.std.specs.Prelude.{◌≡◌, ◌≤◌, ◌<◌, ℕ, List, length, map, slice_index, string_bytes, IfOk, IsAscii};
-ghost use Rattle.std.specs.List.{list_all};
-ghost use Rattle.std.specs.Char.{to_ascii_lowercase};
-ghost use Rattle.first_pass_lines.specs.Lanes.{IsRunIn};
 ghost use Rattle.first_pass_labels.specs.Foldings.{folded, folds_to_itself, leading_number, kept_folding};
+ghost use Rattle.first_pass_lines.specs.Lanes.{IsRunIn};
+ghost use Rattle.std.specs.Char.{to_ascii_lowercase};
+ghost use Rattle.std.specs.List.{list_all};
+ghost use Rattle.std.specs.Prelude.{◌≡◌, ◌≤◌, ◌<◌, ℕ, List, length, map, slice_index, string_bytes, IfOk, IsAscii};
 
 use caseless::default_case_fold_str;
 use first_pass_items::cow_str::InlineStr;

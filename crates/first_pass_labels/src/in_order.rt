@@ -1,12 +1,12 @@
 //! The order of a table of labels, and the iterator over a table.
 
-ghost use Rattle.std.specs.Prelude.{◌≡◌, ◌<◌, ◌≤◌, [], All, Some, IfOk, length, map};
-ghost use Rattle.std.specs.Option.{option_copied};
-ghost use Rattle.std.specs.List.{slice_get};
-ghost use Rattle.std.specs.Iterator.{at_most};
-ghost use Rattle.std.specs.Map.Iter.{TakesFirst, deref_pair};
 ghost use Rattle.first_pass_items.specs.declared.cow_str.CowStr.{CowStr};
 ghost use Rattle.first_pass_labels.specs.LabelTables.{table_of, after_label, comes_after, lesser_of, IsOrderOf, IsOrderIfAny};
+ghost use Rattle.std.specs.Iterator.{at_most};
+ghost use Rattle.std.specs.List.{slice_get};
+ghost use Rattle.std.specs.Map.Iter.{TakesFirst, deref_pair};
+ghost use Rattle.std.specs.Option.{option_copied};
+ghost use Rattle.std.specs.Prelude.{◌≡◌, ◌<◌, ◌≤◌, [], All, Some, IfOk, length, map};
 
 use crate::label_key::LabelKey;
 use crate::slot::Slot;
@@ -58,10 +58,10 @@ pub struct InOrder<'t, 'a, T> {
 }
 
 impl<'t, 'a, T> Model for InOrder<'t, 'a, T> {
-    ghost use Rattle.std.specs.Prelude.{List};
-    ghost use Rattle.std.specs.Option.{option_copied};
     ghost use Rattle.first_pass_items.specs.declared.cow_str.CowStr.{CowStr};
     ghost use Rattle.first_pass_labels.specs.LabelTables.{table_of, after_label, IsOrderIfAny};
+    ghost use Rattle.std.specs.Option.{option_copied};
+    ghost use Rattle.std.specs.Prelude.{List};
 
     ghost Value = { List (CowStr × T) };
 

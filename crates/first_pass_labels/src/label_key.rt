@@ -1,13 +1,13 @@
 //! A label as the key of a table.
 
-ghost use Rattle.std.specs.Prelude.{◌≡◌, Some, IfOk, refl};
+ghost use Rattle.first_pass_items.specs.CowText.{text_of};
+ghost use Rattle.first_pass_labels.specs.Foldings.{folding_of, is_same_label, label_cmp};
 ghost use Rattle.std.proofs.Common.{rules};
-ghost use Rattle.std.specs.Hash as fed;
 ghost use Rattle.std.specs.Cmp.{on_equiv, on_total, on_po, on_per, partial_equiv_from_equiv};
 ghost use Rattle.std.specs.Cmp.Lexicographic.{nat_list_eq_equiv, nat_list_cmp_total, texts_ties, texts_po};
 ghost use Rattle.std.specs.Cmp.Rules.{hashing};
-ghost use Rattle.first_pass_items.specs.CowText.{text_of};
-ghost use Rattle.first_pass_labels.specs.Foldings.{folding_of, is_same_label, label_cmp};
+ghost use Rattle.std.specs.Hash as fed;
+ghost use Rattle.std.specs.Prelude.{◌≡◌, Some, IfOk, refl};
 
 use crate::folding::Folding;
 use first_pass_items::cow_str::CowStr;
@@ -26,10 +26,10 @@ pub struct LabelKey<'a> {
 }
 
 impl<'a> Model for LabelKey<'a> {
-    ghost use Rattle.std.specs.Prelude.{◌≡◌};
-    ghost use Rattle.first_pass_items.specs.declared.cow_str.CowStr.{CowStr};
     ghost use Rattle.first_pass_items.specs.CowText.{text_of};
+    ghost use Rattle.first_pass_items.specs.declared.cow_str.CowStr.{CowStr};
     ghost use Rattle.first_pass_labels.specs.Foldings.{folding_of, kept_folding};
+    ghost use Rattle.std.specs.Prelude.{◌≡◌};
 
     ghost Value = { CowStr };
 

@@ -1,11 +1,11 @@
 //! Tables of what a text defines by label, in the byte order of the labels' foldings.
 
-ghost use Rattle.std.specs.Prelude.{◌≡◌, ◌^◌, ◌<◌, ◌+◌, [], length, is_some, IfOk, IfSome, OnOk, OnErr};
-ghost use Rattle.std.specs.Option.{option_copied};
-ghost use Rattle.std.specs.Map.Iter.{ShowsInOrder, deref_pair};
-ghost use Rattle.first_pass_labels.specs.Foldings.{folded, folding_of};
 ghost use Rattle.first_pass_items.specs.CowText.{text_of};
+ghost use Rattle.first_pass_labels.specs.Foldings.{folded, folding_of};
 ghost use Rattle.first_pass_labels.specs.LabelTables.{defined_under, with_first, IsInOrder, HoldsUnder};
+ghost use Rattle.std.specs.Map.Iter.{ShowsInOrder, deref_pair};
+ghost use Rattle.std.specs.Option.{option_copied};
+ghost use Rattle.std.specs.Prelude.{◌≡◌, ◌^◌, ◌<◌, ◌+◌, [], length, is_some, IfOk, IfSome, OnOk, OnErr};
 
 pub use crate::in_order::InOrder;
 use crate::in_order::order_of;
@@ -104,9 +104,9 @@ pub struct LabelTable<'a, T> {
 }
 
 impl<'a, T> Model for LabelTable<'a, T> {
-    ghost use Rattle.std.specs.Prelude.{List};
     ghost use Rattle.first_pass_items.specs.declared.cow_str.CowStr.{CowStr};
     ghost use Rattle.first_pass_labels.specs.LabelTables.{table_of, IsOrderIfAny};
+    ghost use Rattle.std.specs.Prelude.{List};
 
     ghost Value = { List (CowStr × T) };
 

@@ -1,10 +1,10 @@
 //! Laws of labels and of their tables.
 
-ghost use Rattle.std.specs.Prelude.{◌≡◌, ◌↔◌, ◌∷◌, ◌++◌, [], ℕ, List, true};
-ghost use Rattle.std.specs.declared.cmp.Ordering.TheVariants.{Equal};
 ghost use Rattle.first_pass_items.specs.declared.cow_str.CowStr.{CowStr};
 ghost use Rattle.first_pass_labels.specs.Foldings.{folding_of, is_same_label, label_cmp};
 ghost use Rattle.first_pass_labels.specs.LabelTables.{defined_under, table_of, with_first, IsInOrder};
+ghost use Rattle.std.specs.declared.cmp.Ordering.TheVariants.{Equal};
+ghost use Rattle.std.specs.Prelude.{◌≡◌, ◌↔◌, ◌∷◌, ◌++◌, [], ℕ, List, true};
 
 /// Keys of labels are equal, and neither is before the other, exactly if the foldings of the labels have the same
 /// bytes.

@@ -1,11 +1,11 @@
 //! The search for a label.
 
-ghost use Rattle.std.specs.Prelude.{◌≡◌};
-ghost use Rattle.std.specs.Option.{option_copied};
-ghost use Rattle.std.specs.Map.{lookup};
-ghost use Rattle.std.specs.BTreeMap.{is_at};
 ghost use Rattle.first_pass_labels.specs.Foldings.{label_cmp};
 ghost use Rattle.first_pass_labels.specs.LabelTables.{table_of, IsOrderOf};
+ghost use Rattle.std.specs.BTreeMap.{is_at};
+ghost use Rattle.std.specs.Map.{lookup};
+ghost use Rattle.std.specs.Option.{option_copied};
+ghost use Rattle.std.specs.Prelude.{◌≡◌};
 
 use crate::label_key::LabelKey;
 use std::cmp::Ordering;

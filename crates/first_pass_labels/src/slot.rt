@@ -1,9 +1,9 @@
 //! What a table of labels is sorted by.
 
-ghost use Rattle.std.specs.Prelude.{◌≡◌, Some, refl};
+ghost use Rattle.first_pass_labels.specs.Slots.{slot_folding, is_same_slot, slot_cmp};
 ghost use Rattle.std.specs.Cmp.{on_equiv, on_total, on_po, on_per, partial_equiv_from_equiv};
 ghost use Rattle.std.specs.Cmp.Lexicographic.{nat_list_eq_equiv, nat_list_cmp_total, texts_ties, texts_po};
-ghost use Rattle.first_pass_labels.specs.Slots.{slot_folding, is_same_slot, slot_cmp};
+ghost use Rattle.std.specs.Prelude.{◌≡◌, Some, refl};
 
 use crate::folding::leading_number;
 use crate::label_key::LabelKey;
@@ -25,9 +25,9 @@ pub(crate) struct Slot<'t, 'a, T> {
 }
 
 impl<'t, 'a, T> Model for Slot<'t, 'a, T> {
-    ghost use Rattle.std.specs.Prelude.{◌≡◌, ◌<◌, ◌+◌, ◌*◌, ◌^◌, ℕ, slice_index};
     ghost use Rattle.first_pass_items.specs.declared.cow_str.CowStr.{CowStr};
     ghost use Rattle.first_pass_labels.specs.Foldings.{folding_of, leading_number};
+    ghost use Rattle.std.specs.Prelude.{◌≡◌, ◌<◌, ◌+◌, ◌*◌, ◌^◌, ℕ, slice_index};
 
     ghost Value = { (CowStr × T) × ℕ };
 

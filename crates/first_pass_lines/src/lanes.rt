@@ -1,8 +1,8 @@
 //! Runs of bytes of one kind, found 16 bytes at a time.
 
-ghost use Rattle.std.specs.Prelude.{◌≡◌, ◌+◌, ◌≤◌, length};
-ghost use Rattle.first_pass_lines.specs.Lines.{is_content, is_white};
 ghost use Rattle.first_pass_lines.specs.Lanes.{first_set as lowest, is_space, IsRunIn};
+ghost use Rattle.first_pass_lines.specs.Lines.{is_content, is_white};
+ghost use Rattle.std.specs.Prelude.{◌≡◌, ◌+◌, ◌≤◌, length};
 
 use std::simd::prelude::*;
 

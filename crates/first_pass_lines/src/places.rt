@@ -1,8 +1,8 @@
 //! The lines of a text, and the rest of the text from an offset on.
 
-ghost use Rattle.std.specs.Prelude.{◌≡◌, map, ℕ, ◌+◌, ◌<◌, ◌≤◌, List, [], ◌∷◌, length, drop, All};
 ghost use Rattle.first_pass_lines.specs.Lines.{line_len};
 ghost use Rattle.first_pass_lines.specs.Places.{line_place, lines_at, line_of, IsLinePlace, IsDivision};
+ghost use Rattle.std.specs.Prelude.{◌≡◌, map, ℕ, ◌+◌, ◌<◌, ◌≤◌, List, [], ◌∷◌, length, drop, All};
 
 use crate::lines::scan_nextline;
 

@@ -1,7 +1,7 @@
 //! How much the rest of a text holds, judged by the part that was read.
 
-ghost use Rattle.std.specs.Prelude.{◌≡◌, ◌<◌, ◌-◌, ◌*◌, ◌^◌, max, min};
 ghost use Rattle.first_pass_lines.specs.Samples.{parts_of};
+ghost use Rattle.std.specs.Prelude.{◌≡◌, ◌<◌, ◌-◌, ◌*◌, ◌^◌, max, min};
 
 /// How much of a text was read.
 #[derive(Clone, Copy)]

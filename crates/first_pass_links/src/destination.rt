@@ -1,11 +1,11 @@
 //! Link destinations (CommonMark 6.3).
 
-ghost use Rattle.std.specs.Prelude.{◌≡◌, ℕ, ◌+◌, ◌<◌, ◌≤◌, ◌^◌, ◌==◌, ◌||◌, length, drop, slice_index, None, IfSome, IsSomeAnd, MatchOption, true, if◌then◌else◌};
-ghost use Rattle.std.specs.Str.{IsCharBoundary};
 ghost use Rattle.first_pass_items.specs.Bytes.{ascii_end, left_parenthesis, right_parenthesis};
+ghost use Rattle.first_pass_links.specs.Destinations.{unescaped_upto, ends_bracketed, ends_run, closes_none, nesting_after, bare_len, longer, destination_at};
 ghost use Rattle.first_pass_links.specs.Escapes.{begins_escape};
 ghost use Rattle.first_pass_links.specs.Runs.{is_run_byte};
-ghost use Rattle.first_pass_links.specs.Destinations.{unescaped_upto, ends_bracketed, ends_run, closes_none, nesting_after, bare_len, longer, destination_at};
+ghost use Rattle.std.specs.Prelude.{◌≡◌, ℕ, ◌+◌, ◌<◌, ◌≤◌, ◌^◌, ◌==◌, ◌||◌, length, drop, slice_index, None, IfSome, IsSomeAnd, MatchOption, true, if◌then◌else◌};
+ghost use Rattle.std.specs.Str.{IsCharBoundary};
 
 use crate::plain::plain_run;
 use first_pass_lines::lines::begins;

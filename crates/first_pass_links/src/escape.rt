@@ -1,17 +1,17 @@
 //! Backslash escapes (CommonMark 2.4) and references (2.5) in a text, replaced by their characters.
 
-ghost use Rattle.std.specs.Prelude.{◌≡◌, ◌==◌, ◌||◌, false, ◌+◌, ◌<◌, ◌≤◌, ◌++◌, length, drop, unwrap_or, IfOk, IsOkAnd, OnOk, IfSome, IfNone, IsCharBoundary};
-ghost use Rattle.std.specs.String.{string_bytes};
-ghost use Rattle.std.specs.Char.{is_ascii_digit};
+ghost use Rattle.first_pass_entities.specs.Entities.{entity_at, name_at, numeric_at};
+ghost use Rattle.first_pass_entities.specs.Texts.{Borrows, TakesNoMemory};
 ghost use Rattle.first_pass_items.specs.Bytes.{small_x, capital_x};
 ghost use Rattle.first_pass_items.specs.CowText.{text_of};
 ghost use Rattle.first_pass_lines.specs.Lanes.{IsRunIn};
+ghost use Rattle.first_pass_links.specs.Changes.{change_at, IsChange};
 ghost use Rattle.first_pass_links.specs.Escapes.{unescaped};
 ghost use Rattle.first_pass_links.specs.Plain.{is_unmarked};
-ghost use Rattle.first_pass_entities.specs.Entities.{entity_at, name_at, numeric_at};
-ghost use Rattle.first_pass_entities.specs.Texts.{Borrows, TakesNoMemory};
-ghost use Rattle.first_pass_links.specs.Changes.{change_at, IsChange};
 ghost use Rattle.first_pass_links.specs.Units.{part};
+ghost use Rattle.std.specs.Char.{is_ascii_digit};
+ghost use Rattle.std.specs.Prelude.{◌≡◌, ◌==◌, ◌||◌, false, ◌+◌, ◌<◌, ◌≤◌, ◌++◌, length, drop, unwrap_or, IfOk, IsOkAnd, OnOk, IfSome, IfNone, IsCharBoundary};
+ghost use Rattle.std.specs.String.{string_bytes};
 
 use crate::plain::unmarked_run;
 use first_pass_entities::entity::scan_reference;

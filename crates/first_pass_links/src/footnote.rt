@@ -1,11 +1,11 @@
 //! Heads of footnote definitions (this project; CommonMark 6.3 on their labels).
 
+ghost use Rattle.first_pass_entities.specs.Texts.{Borrows};
+ghost use Rattle.first_pass_items.specs.CowText.{text_of};
+ghost use Rattle.first_pass_links.specs.Footnotes.{begins_footnote_mark as begins_head, footnote_head};
+ghost use Rattle.first_pass_links.specs.Labels.{AnswersWith, AnswersPlaces, CanErr};
 ghost use Rattle.std.specs.Prelude.{◌≡◌, ◌+◌, ◌-◌, ◌<◌, ℕ, Bool, List, Option, None, is_some, take, drop, IfOk, IfSome, OnErr, true, IsSomeAnd, MatchOption};
 ghost use Rattle.std.specs.Str.{IsCharBoundary};
-ghost use Rattle.first_pass_items.specs.CowText.{text_of};
-ghost use Rattle.first_pass_entities.specs.Texts.{Borrows};
-ghost use Rattle.first_pass_links.specs.Labels.{AnswersWith, AnswersPlaces, CanErr};
-ghost use Rattle.first_pass_links.specs.Footnotes.{begins_footnote_mark as begins_head, footnote_head};
 
 use crate::label::{is_label, scan_label_end, scan_link_label_rest};
 use first_pass_items::cow_str::CowStr;

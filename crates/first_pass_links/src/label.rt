@@ -1,16 +1,16 @@
 //! Link labels (CommonMark 6.3).
 
-ghost use Rattle.std.specs.Prelude.{◌≡◌, ◌≢◌, ◌+◌, ◌-◌, ◌<◌, ◌≤◌, ◌++◌, ◌∷◌, [], ℕ, List, Option, true, false, not, None, Some, length, take, drop, slice_index, IfOk, IfSome, IsUtf8, OnErr, IsSomeAnd, MatchOption, if◌then◌else◌};
-ghost use Rattle.std.specs.List.{list_any, count_by};
-ghost use Rattle.std.specs.String.{string_bytes};
-ghost use Rattle.std.specs.Str.{IsCharBoundary};
+ghost use Rattle.first_pass_entities.specs.Texts.{Borrows};
 ghost use Rattle.first_pass_items.specs.Bytes.{backslash, space};
 ghost use Rattle.first_pass_items.specs.CowText.{text_of};
 ghost use Rattle.first_pass_lines.specs.Lines.{ends_line, is_white_or_line_end};
 ghost use Rattle.first_pass_links.specs.Destinations.{unescaped_upto};
-ghost use Rattle.first_pass_entities.specs.Texts.{Borrows};
 ghost use Rattle.first_pass_links.specs.Labels.{AnswersWith, AnswersPlaces, CanErr, ErrsAfter, is_bracket, begins_character, ends_line_label, is_label, label_at};
 ghost use Rattle.first_pass_links.specs.Units.{part, read_of, left_at, kept_unit, space_unit, dropped_unit, backslash_unit, IsUnit, Reads, ReadsUnits, IsLighter, IsWhiteRun, EndsWhiteRun, StopsByError, IsBlankRest};
+ghost use Rattle.std.specs.List.{list_any, count_by};
+ghost use Rattle.std.specs.Prelude.{◌≡◌, ◌≢◌, ◌+◌, ◌-◌, ◌<◌, ◌≤◌, ◌++◌, ◌∷◌, [], ℕ, List, Option, true, false, not, None, Some, length, take, drop, slice_index, IfOk, IfSome, IsUtf8, OnErr, IsSomeAnd, MatchOption, if◌then◌else◌};
+ghost use Rattle.std.specs.Str.{IsCharBoundary};
+ghost use Rattle.std.specs.String.{string_bytes};
 
 use crate::destination::unit_len;
 use crate::plain::{plain_run, scan_plain_label};

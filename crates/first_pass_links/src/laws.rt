@@ -1,8 +1,8 @@
 //! Laws of the definitions.
 
-ghost use Rattle.std.specs.Prelude.{◌≡◌, ℕ, List, Some};
 ghost use Rattle.first_pass_links.specs.Destinations.{bare_len};
 ghost use Rattle.first_pass_links.specs.Runs.{BeginsRun};
+ghost use Rattle.std.specs.Prelude.{◌≡◌, ℕ, List, Some};
 
 /// `bare_len` gives the length n exactly if the first n bytes are a run that ends there, by the grammar of runs.
 /// CommonMark 6.3.

@@ -1,8 +1,8 @@
 //! Runs of bytes without a special meaning in a label, in a destination or in a text, tested 16 at a time.
 
-ghost use Rattle.std.specs.Prelude.{◌≡◌, ◌+◌, ◌<◌, ◌≤◌, ℕ, length, slice_index, true, IfSome};
 ghost use Rattle.first_pass_lines.specs.Lanes.{IsRunIn};
 ghost use Rattle.first_pass_links.specs.Plain.{is_ordinary, is_unmarked, IsPlainLabel};
+ghost use Rattle.std.specs.Prelude.{◌≡◌, ◌+◌, ◌<◌, ◌≤◌, ℕ, length, slice_index, true, IfSome};
 
 use first_pass_lines::lanes::{LANES, first_set};
 use first_pass_lines::lines::begins;

@@ -6,11 +6,11 @@
 //! after a definition (`MaybeDefinitionListTitle`). A `:` after it makes it the next title of the definition list.
 //! Otherwise it comes after that list (this project).
 
-ghost use Rattle.std.specs.Prelude.{◌≡◌, ◌==◌, ◌<◌, length, None, true, IsSome, slice_get, OnOk, IfSome, bit_and, if◌then◌else◌};
-ghost use Rattle.first_pass_lists.specs.Closing.{loosened_at, top_body, is_list, is_item, is_list_of, popped_at, popped, empty_item_closed, list_closed, footnote_left, old_footnote_finished, footnote_begun, with_tree, gap_marked, list_finished, list_kept, list_continued, begun, blank_read, is_footnote};
-ghost use Rattle.first_pass_lists.specs.Closing.{is_definition_list, top_end, possible_title, title_closed, title_begun, definitions_closed, definitions_left, definitions_opened, definition_begun, may_begin_definition, is_after_definition};
-ghost use Rattle.first_pass_tree.specs.Tight.{tight_items};
 ghost use Rattle.first_pass_items.specs.declared.item.ItemBody.TheVariants.{BlockQuote as BlockQuoteBody, ListItem as ListItemBody};
+ghost use Rattle.first_pass_lists.specs.Closing.{is_definition_list, top_end, possible_title, title_closed, title_begun, definitions_closed, definitions_left, definitions_opened, definition_begun, may_begin_definition, is_after_definition};
+ghost use Rattle.first_pass_lists.specs.Closing.{loosened_at, top_body, is_list, is_item, is_list_of, popped_at, popped, empty_item_closed, list_closed, footnote_left, old_footnote_finished, footnote_begun, with_tree, gap_marked, list_finished, list_kept, list_continued, begun, blank_read, is_footnote};
+ghost use Rattle.first_pass_tree.specs.Tight.{tight_items};
+ghost use Rattle.std.specs.Prelude.{◌≡◌, ◌==◌, ◌<◌, length, None, true, IsSome, slice_get, OnOk, IfSome, bit_and, if◌then◌else◌};
 
 use crate::state::PassState;
 use bitflags::Flags;

@@ -1,9 +1,9 @@
 //! A call of the original that the pass does not make. A definition list keeps its leading titles and definitions, and
 //! all later children move out of it (this project).
 
-ghost use Rattle.std.specs.Prelude.{◌≡◌, ◌<◌, ◌≤◌, length, Some};
-ghost use Rattle.first_pass_tree.specs.Forest.{depths, last_before};
 ghost use Rattle.first_pass_lists.specs.Titles.{first_other, fixed_up, is_title_or_definition, left_untitled};
+ghost use Rattle.first_pass_tree.specs.Forest.{depths, last_before};
+ghost use Rattle.std.specs.Prelude.{◌≡◌, ◌<◌, ◌≤◌, length, Some};
 
 use first_pass_items::item::{Item, ItemBody};
 use first_pass_tree::forest::Tree;

@@ -1,9 +1,9 @@
 //! Lines that open or close a metadata block.
 
-ghost use Rattle.std.specs.Prelude.{◌≡◌, ◌≤◌, true, length, Some, None, IfSome, if◌then◌else◌};
 ghost use Rattle.first_pass_lines.specs.Lines.{line_len};
 ghost use Rattle.first_pass_metadata.specs.Metadata.{closing_marks, closing_metadata_len, any_line_closes, begins_metadata, opens_metadata as metadata_opens, metadata_byte};
 ghost use Rattle.first_pass_metadata.specs.MetadataSearch.{closing_line_from};
+ghost use Rattle.std.specs.Prelude.{◌≡◌, ◌≤◌, true, length, Some, None, IfSome, if◌then◌else◌};
 
 use first_pass_lines::lines::{scan_blank_line, scan_eol, scan_nextline};
 use first_pass_lines::places::{next_line, rest_of};

@@ -1,8 +1,8 @@
 //! Metadata blocks of one text, with a record of the closing lines found.
 
-ghost use Rattle.std.specs.Prelude.{◌≡◌, ◌≤◌, ℕ, List, length, drop, IfSome};
 ghost use Rattle.first_pass_metadata.specs.Metadata.{after_line, any_line_closes, opens_metadata, metadata_byte};
 ghost use Rattle.first_pass_metadata.specs.MetadataSearch.{IsClosingLine, IsKnownOf};
+ghost use Rattle.std.specs.Prelude.{◌≡◌, ◌≤◌, ℕ, List, length, drop, IfSome};
 
 use crate::metadata_scan::{scan_closing_line, scan_metadata_opening};
 use first_pass_lines::places::{next_line, rest_of};

@@ -1,13 +1,13 @@
 //! What belongs to a tree but is not in it: the tables of what the text defines, and the lists that nodes refer to.
 
-ghost use Rattle.std.specs.Option.{option_map};
 ghost use Rattle.first_pass_attributes.specs.Attributes.{attributes_in};
-ghost use Rattle.std.specs.Prelude.{◌≡◌, ◌<◌, ◌+◌, ◌∷◌, [], length, slice_get, None, Ok, Some, IfOk, IsSomeAnd, MatchOption, OnOk, OnErr, false};
-ghost use Rattle.first_pass_links.specs.Labels.{label_at};
-ghost use Rattle.first_pass_items.specs.CowText.{text_of};
-ghost use Rattle.first_pass_names.specs.TableEntries.{entries, with_definition, IsCopy, AddsFootnote, tables_of, names_of, no_names, with_named, with_alignments, with_heading, link_entry, link_at as link_at_of, refdefs_of, footdefs_of};
-ghost use Rattle.first_pass_grammar.specs.Names.{text_named, alignments_named};
 ghost use Rattle.first_pass_grammar.specs.Derivation.{no_tables, with_definitions, with_footnote_label};
+ghost use Rattle.first_pass_grammar.specs.Names.{text_named, alignments_named};
+ghost use Rattle.first_pass_items.specs.CowText.{text_of};
+ghost use Rattle.first_pass_links.specs.Labels.{label_at};
+ghost use Rattle.first_pass_names.specs.TableEntries.{entries, with_definition, IsCopy, AddsFootnote, tables_of, names_of, no_names, with_named, with_alignments, with_heading, link_entry, link_at as link_at_of, refdefs_of, footdefs_of};
+ghost use Rattle.std.specs.Option.{option_map};
+ghost use Rattle.std.specs.Prelude.{◌≡◌, ◌<◌, ◌+◌, ◌∷◌, [], length, slice_get, None, Ok, Some, IfOk, IsSomeAnd, MatchOption, OnOk, OnErr, false};
 
 pub use first_pass_attributes::attrs::HeadingAttributes;
 use first_pass_items::cow_str::{CowStr, InlineStr};

@@ -1,12 +1,12 @@
 //! Appends the tokens of a line or of a table cell to a tree, and their strings to the list of strings.
 
-ghost use Rattle.std.specs.Prelude.{◌≡◌, ◌≤◌, length, false, IfOk, IfSome, OnOk, IsUtf8};
-ghost use Rattle.first_pass_walk.specs.Walk.{MarksSpecial};
+ghost use Rattle.first_pass_grammar.specs.Names.{Extends};
+ghost use Rattle.first_pass_names.specs.TableEntries.{entries, names_of, AddsTexts};
 ghost use Rattle.first_pass_tokens.specs.LineTokens.{EndsLine, EndsCell};
 ghost use Rattle.first_pass_tokens.specs.Pieces.{source, text_upto};
 ghost use Rattle.first_pass_tokens.specs.TreeTokens.{AppendsLine, AppendsCell};
-ghost use Rattle.first_pass_grammar.specs.Names.{Extends};
-ghost use Rattle.first_pass_names.specs.TableEntries.{entries, names_of, AddsTexts};
+ghost use Rattle.first_pass_walk.specs.Walk.{MarksSpecial};
+ghost use Rattle.std.specs.Prelude.{◌≡◌, ◌≤◌, length, false, IfOk, IfSome, OnOk, IsUtf8};
 
 use crate::items::Allocations;
 use first_pass_items::item::Item;

@@ -1,9 +1,9 @@
 //! The parser that a report calls.
 
-ghost use Rattle.std.specs.Prelude.{IfOk};
 ghost use Rattle.first_pass_grammar.specs.Derivation.{Derives};
 ghost use Rattle.first_pass_grammar.specs.Leaves.{document};
 ghost use Rattle.first_pass_names.specs.TableEntries.{names_of, tables_of};
+ghost use Rattle.std.specs.Prelude.{IfOk};
 
 use crate::items::Allocations;
 use first_pass_items::item::Item;

@@ -1,12 +1,12 @@
 //! How far a line continues the open containers (CommonMark 5).
 
-ghost use Rattle.std.specs.Prelude.{◌≡◌, ℕ, ◌<◌, ◌≤◌, length, Some, None, true, false, MatchOption};
-ghost use Rattle.first_pass_grammar.specs.declared.kind.Container.TheVariants.{BlockQuote, ListItem};
 ghost use Rattle.first_pass_grammar.specs.Containers.{prefix, after, front};
-ghost use Rattle.first_pass_lines.specs.Rest.{after_columns};
-ghost use Rattle.first_pass_lines.specs.Places.{line_rest};
+ghost use Rattle.first_pass_grammar.specs.declared.kind.Container.TheVariants.{BlockQuote, ListItem};
 ghost use Rattle.first_pass_items.specs.declared.option_set.Options.{Options as OptionSet};
+ghost use Rattle.first_pass_lines.specs.Places.{line_rest};
+ghost use Rattle.first_pass_lines.specs.Rest.{after_columns};
 ghost use Rattle.first_pass_open.specs.Path.{container_of, prefix_of, columns_needed, path_in, path_of, outer, is_quote_node, has_quote_after};
+ghost use Rattle.std.specs.Prelude.{◌≡◌, ℕ, ◌<◌, ◌≤◌, length, Some, None, true, false, MatchOption};
 
 use first_pass_items::item::{Item, ItemBody};
 use first_pass_items::option_set::Options;

@@ -1,12 +1,12 @@
 //! How far a line continues the open containers, and the front of the line: what is left after the prefixes of the
 //! containers that it continues (CommonMark 5).
 
-ghost use Rattle.std.specs.Prelude.{◌≡◌, ◌<◌, ◌≤◌, ℕ, drop, length, is_some, Some, None, false, IfSome, IsTrue, IsUtf8, IsCharBoundary};
-ghost use Rattle.first_pass_items.specs.declared.option_set.Options.{Options};
-ghost use Rattle.first_pass_lines.specs.Places.{line_rest, place_at, IsPlaceOf};
 ghost use Rattle.first_pass_grammar.specs.Containers.{after, front};
 ghost use Rattle.first_pass_grammar.specs.Kinds.{continued};
+ghost use Rattle.first_pass_items.specs.declared.option_set.Options.{Options};
+ghost use Rattle.first_pass_lines.specs.Places.{line_rest, place_at, IsPlaceOf};
 ghost use Rattle.first_pass_open.specs.Path.{outer, path_in, path_of, definition_at_depth, continued_to, has_quote_after};
+ghost use Rattle.std.specs.Prelude.{◌≡◌, ◌<◌, ◌≤◌, ℕ, drop, length, is_some, Some, None, false, IfSome, IsTrue, IsUtf8, IsCharBoundary};
 
 use crate::containers::{continued_rest, scan_containers};
 use crate::source::Source;

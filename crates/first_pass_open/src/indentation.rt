@@ -1,8 +1,8 @@
 //! The indentation at a place in a line.
 
-ghost use Rattle.std.specs.Prelude.{◌≡◌, min};
-ghost use Rattle.first_pass_lines.specs.Rest.{indent};
 ghost use Rattle.first_pass_grammar.specs.Kinds.{all_taken};
+ghost use Rattle.first_pass_lines.specs.Rest.{indent};
+ghost use Rattle.std.specs.Prelude.{◌≡◌, min};
 
 use first_pass_scan::line_start::LineStart;
 

@@ -1,8 +1,8 @@
 //! How a block is opened, filled and closed in a tree.
 
-ghost use Rattle.std.specs.Prelude.{◌≡◌, slice_get, length, IsSome, Some, IfOk, OnOk};
 ghost use Rattle.first_pass_items.specs.declared.item.Item.{Item};
 ghost use Rattle.first_pass_open.specs.OpenBlock.{closed_by, opened_block, with_child};
+ghost use Rattle.std.specs.Prelude.{◌≡◌, slice_get, length, IsSome, Some, IfOk, OnOk};
 
 use first_pass_items::item::{Item, ItemBody};
 use first_pass_tree::forest::Tree;

@@ -1,7 +1,7 @@
 //! Places in a text.
 
-ghost use Rattle.std.specs.Prelude.{◌≡◌, ◌<◌, ◌^◌};
 ghost use Rattle.first_pass_lines.specs.Places.{offset};
+ghost use Rattle.std.specs.Prelude.{◌≡◌, ◌<◌, ◌^◌};
 
 use first_pass_scan::line_start::LineStart;
 use std::marker::Model;

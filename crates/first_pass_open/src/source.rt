@@ -1,7 +1,7 @@
 //! The text, and what else stays the same while it is read: the allocator, the options, and the special bytes.
 
-ghost use Rattle.std.specs.Prelude.{◌≡◌, ◌<◌, ◌^◌, length};
 ghost use Rattle.first_pass_walk.specs.Walk.{MarksSpecial};
+ghost use Rattle.std.specs.Prelude.{◌≡◌, ◌<◌, ◌^◌, length};
 
 use first_pass_items::option_set::Options;
 use first_pass_walk::walk::special_bytes;

@@ -1,11 +1,11 @@
 //! Writes the lines of an outline.
 
-ghost use Rattle.std.specs.Option.{option_map};
-ghost use Rattle.std.specs.Prelude.{◌≡◌, ◌++◌, map, OnOk};
-ghost use Rattle.std.specs.List.{flat_map};
 ghost use Rattle.first_pass_host.specs.Streams.{WritesText, stream_between};
 ghost use Rattle.first_pass_outline.specs.Entries.{entry_in};
 ghost use Rattle.first_pass_outline.specs.Lines.{entry_line, id_text};
+ghost use Rattle.std.specs.List.{flat_map};
+ghost use Rattle.std.specs.Option.{option_map};
+ghost use Rattle.std.specs.Prelude.{◌≡◌, ◌++◌, map, OnOk};
 
 use crate::outline::OutlineEntry;
 use first_pass_host::fault::RunFault;

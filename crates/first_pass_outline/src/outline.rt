@@ -1,12 +1,12 @@
 //! The outline of a tree, and of a text.
 
-ghost use Rattle.std.specs.Option.{option_map, option_and_then};
-ghost use Rattle.std.specs.Prelude.{◌≡◌, IfOk, length, map};
 ghost use Rattle.first_pass_grammar.specs.Names.{AttributesAt, named, read, read_nodes};
 ghost use Rattle.first_pass_names.specs.TableEntries.{names_of};
-ghost use Rattle.first_pass_outline.specs.Outline.{entry_of, id_in, outline_of};
 ghost use Rattle.first_pass_outline.specs.Entries.{entry_in};
+ghost use Rattle.first_pass_outline.specs.Outline.{entry_of, id_in, outline_of};
 ghost use Rattle.first_pass_outline.specs.TextOutline.{IsOnlyOutline, IsOutline, LieBetween};
+ghost use Rattle.std.specs.Option.{option_map, option_and_then};
+ghost use Rattle.std.specs.Prelude.{◌≡◌, IfOk, length, map};
 
 use first_pass_blocks::pass::run_first_pass;
 use first_pass_items::item::{HeadingIndex, HeadingLevel, Item, ItemBody};

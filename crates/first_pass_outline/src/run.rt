@@ -1,8 +1,8 @@
 //! The work of the program `outline`.
 
 ghost use Rattle.first_pass_host.specs.Streams.{stream_between};
-ghost use Rattle.first_pass_run.specs.Runs.{Runs};
 ghost use Rattle.first_pass_outline.specs.Lines.{IsListed};
+ghost use Rattle.first_pass_run.specs.Runs.{Runs};
 
 use crate::lines::write_entries;
 use crate::outline::outline_text;

@@ -1,9 +1,9 @@
 //! Where the attribute block of a heading is written (this project).
 
-ghost use Rattle.std.specs.Prelude.{◌≡◌, ◌≤◌, ◌==◌, not, length, IfSome, IsCharBoundary};
-ghost use Rattle.std.specs.List.{suffix_len};
 ghost use Rattle.first_pass_places.specs.AttributeBlockPlaces.{attribute_block_range, upto_last};
 ghost use Rattle.first_pass_places.specs.RangeEnds.{EndsAreBoundaries, IsIn};
+ghost use Rattle.std.specs.List.{suffix_len};
+ghost use Rattle.std.specs.Prelude.{◌≡◌, ◌≤◌, ◌==◌, not, length, IfSome, IsCharBoundary};
 
 use first_pass_items::item::{Item, ItemBody};
 use std::ops::Range;

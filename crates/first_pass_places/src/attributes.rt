@@ -1,8 +1,8 @@
 //! Where the attributes in the attribute block of a heading are written (this project).
 
-ghost use Rattle.std.specs.Prelude.{◌≡◌, ◌<◌, ◌≤◌, ◌++◌, ◌+◌, length, map, IfOk, OnOk, OnErr, All, IsCharBoundary};
 ghost use Rattle.first_pass_places.specs.AttributePlaces.{attribute_place, attribute_ranges, key_place, range_of, word_range, word_ranges};
 ghost use Rattle.first_pass_places.specs.RangeEnds.{HasWholeCharacters, IsIn};
+ghost use Rattle.std.specs.Prelude.{◌≡◌, ◌<◌, ◌≤◌, ◌++◌, ◌+◌, length, map, IfOk, OnOk, OnErr, All, IsCharBoundary};
 
 use crate::attribute_block::attribute_block_range_in;
 use first_pass_attributes::words::{scan_key, scan_word};

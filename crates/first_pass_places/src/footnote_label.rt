@@ -1,9 +1,9 @@
 //! Where the label of a footnote definition is written (this project).
 
-ghost use Rattle.std.specs.Prelude.{◌≡◌, ◌≤◌, ◌+◌, length};
 ghost use Rattle.first_pass_links.specs.Labels.{is_bracket, label_len};
 ghost use Rattle.first_pass_places.specs.FootnoteLabels.{label_range};
 ghost use Rattle.first_pass_places.specs.RangeEnds.{IsAsciiAt, EndsAreBoundaries};
+ghost use Rattle.std.specs.Prelude.{◌≡◌, ◌≤◌, ◌+◌, length};
 
 use first_pass_items::item::Item;
 use first_pass_lines::places::rest_of;

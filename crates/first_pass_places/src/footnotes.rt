@@ -1,8 +1,8 @@
 //! The node of each footnote's first definition (this project).
 
-ghost use Rattle.std.specs.Prelude.{◌<◌, length, IfOk, OnOk, OnErr};
 ghost use Rattle.first_pass_names.specs.TableEntries.{names_of};
 ghost use Rattle.first_pass_places.specs.FootnoteNodes.{AreFirstFootnotes, AddsNode, label_with_index, labels_from};
+ghost use Rattle.std.specs.Prelude.{◌<◌, length, IfOk, OnOk, OnErr};
 
 use first_pass_items::cow_str::CowStr;
 use first_pass_items::item::{Item, ItemBody};

@@ -1,9 +1,9 @@
 //! Where the info string of a fenced code block is written (CommonMark 4.5).
 
-ghost use Rattle.std.specs.Prelude.{◌≡◌, ◌≤◌, length, slice_index};
-ghost use Rattle.first_pass_scan.specs.LeafLines.{run_len};
 ghost use Rattle.first_pass_places.specs.InfoStrings.{info_range};
 ghost use Rattle.first_pass_places.specs.RangeEnds.{IsAsciiAt, EndsAreBoundaries};
+ghost use Rattle.first_pass_scan.specs.LeafLines.{run_len};
+ghost use Rattle.std.specs.Prelude.{◌≡◌, ◌≤◌, length, slice_index};
 
 use first_pass_items::item::Item;
 use first_pass_lines::lines::{scan_whitespace_no_nl, trailing_white};

@@ -2,8 +2,16 @@
 //! range gives what the node names, and both ends are on character boundaries. Also a law of the table that
 //! `footnote_nodes` returns.
 
-ghost use Rattle.std.specs.Prelude.{◌≡◌, ◌+◌, ◌≤◌, ℕ, List, Option, Some, IfSome, IsUtf8, All, drop, length, map};
-ghost use Rattle.std.specs.declared.ops.Range.{Range};
+ghost use Rattle.first_pass_attributes.specs.Attributes.{attributes_of};
+ghost use Rattle.first_pass_grammar.specs.CodeBlocks.{IsFencedCode};
+ghost use Rattle.first_pass_grammar.specs.Completion.{lines_from};
+ghost use Rattle.first_pass_grammar.specs.declared.kind.Container.{Container};
+ghost use Rattle.first_pass_grammar.specs.Derivation.{Derives, Tables};
+ghost use Rattle.first_pass_grammar.specs.Footnotes.{NamesLabel, footnote_head_at, footnote_prefix, label_bytes};
+ghost use Rattle.first_pass_grammar.specs.Kinds.{unindented};
+ghost use Rattle.first_pass_grammar.specs.Leaves.{Document, IsHeading, around, heading_block, heading_text_at};
+ghost use Rattle.first_pass_grammar.specs.Tables.{Taken};
+ghost use Rattle.first_pass_grammar.specs.Texts.{IsPlainText};
 ghost use Rattle.first_pass_items.specs.declared.cow_str.CowStr.{CowStr};
 ghost use Rattle.first_pass_items.specs.declared.item.CowIndex.{CowIndex};
 ghost use Rattle.first_pass_items.specs.declared.item.HeadingIndex.{HeadingIndex};
@@ -11,17 +19,6 @@ ghost use Rattle.first_pass_items.specs.declared.item.HeadingLevel.{HeadingLevel
 ghost use Rattle.first_pass_items.specs.declared.item.Item.{Item};
 ghost use Rattle.first_pass_lines.specs.Lines.{level_number, line_len};
 ghost use Rattle.first_pass_lines.specs.Places.{Place, offset};
-ghost use Rattle.first_pass_scan.specs.LeafLines.{code_fence};
-ghost use Rattle.first_pass_attributes.specs.Attributes.{attributes_of};
-ghost use Rattle.first_pass_grammar.specs.declared.kind.Container.{Container};
-ghost use Rattle.first_pass_grammar.specs.CodeBlocks.{IsFencedCode};
-ghost use Rattle.first_pass_grammar.specs.Completion.{lines_from};
-ghost use Rattle.first_pass_grammar.specs.Derivation.{Derives, Tables};
-ghost use Rattle.first_pass_grammar.specs.Footnotes.{NamesLabel, footnote_head_at, footnote_prefix, label_bytes};
-ghost use Rattle.first_pass_grammar.specs.Kinds.{unindented};
-ghost use Rattle.first_pass_grammar.specs.Leaves.{Document, IsHeading, around, heading_block, heading_text_at};
-ghost use Rattle.first_pass_grammar.specs.Tables.{Taken};
-ghost use Rattle.first_pass_grammar.specs.Texts.{IsPlainText};
 ghost use Rattle.first_pass_places.specs.AttributeBlockPlaces.{attribute_block_range};
 ghost use Rattle.first_pass_places.specs.AttributePlaces.{attribute_ranges};
 ghost use Rattle.first_pass_places.specs.FootnoteLabels.{label_range};
@@ -29,6 +26,9 @@ ghost use Rattle.first_pass_places.specs.FootnoteNodes.{AreFirstFootnotes, entry
 ghost use Rattle.first_pass_places.specs.InfoStrings.{bytes_in};
 ghost use Rattle.first_pass_places.specs.NamePlaces.{FirstIsReadFromText, HasNameOnBoundaries, HaveWholeStarts, NamesLabelAt};
 ghost use Rattle.first_pass_places.specs.PlacedAttributes.{attributes_from_places};
+ghost use Rattle.first_pass_scan.specs.LeafLines.{code_fence};
+ghost use Rattle.std.specs.declared.ops.Range.{Range};
+ghost use Rattle.std.specs.Prelude.{◌≡◌, ◌+◌, ◌≤◌, ℕ, List, Option, Some, IfSome, IsUtf8, All, drop, length, map};
 
 /// The info string that a fenced code block names is what the bytes in `info_range` give, with escapes and references
 /// resolved. The block begins at `start` with a fence of `count` bytes, each equal to `byte` (CommonMark 4.5).

@@ -1,8 +1,8 @@
 //! The range that an info string, a footnote's label or a heading's attributes have in the text (this project).
 
-ghost use Rattle.std.specs.Prelude.{◌≡◌, ◌≤◌, length, IfSome, IsUtf8};
 ghost use Rattle.first_pass_places.specs.NamePlaces.{HasWholeStart, name_range};
 ghost use Rattle.first_pass_places.specs.RangeEnds.{EndsAreBoundaries, IsIn};
+ghost use Rattle.std.specs.Prelude.{◌≡◌, ◌≤◌, length, IfSome, IsUtf8};
 
 use crate::attribute_block::attribute_block_range_in;
 use crate::footnote_label::label_range;

@@ -1,7 +1,7 @@
 //! The ranges of the attributes of a heading, and the labels and the nodes of two footnotes.
 
-ghost use Rattle.std.specs.Prelude.{◌≡◌};
 ghost use Rattle.first_pass_items.specs.declared.item.ItemBody.TheVariants.{FootnoteDefinition};
+ghost use Rattle.std.specs.Prelude.{◌≡◌};
 
 use first_pass_items::cow_str::CowStr;
 use first_pass_items::item::{CowIndex, HeadingIndex, HeadingLevel, Item, ItemBody};

@@ -1,10 +1,10 @@
 //! The printed form of the level and the attributes of a heading.
 
-ghost use Rattle.std.specs.Prelude.{◌≡◌, ◌++◌, OnOk, map};
-ghost use Rattle.std.specs.Option.{option_map};
 ghost use Rattle.first_pass_attributes.specs.Attributes.{attributes_in, pair_in};
 ghost use Rattle.first_pass_printed.specs.HeadingValues.{attribute_values, class_values, heading_values, id_value, key_value, key_values, value_after_key};
 ghost use Rattle.first_pass_printed.specs.Printed.{visible};
+ghost use Rattle.std.specs.Option.{option_map};
+ghost use Rattle.std.specs.Prelude.{◌≡◌, ◌++◌, OnOk, map};
 
 use crate::node::{append_number, append_visible};
 use first_pass_attributes::attrs::HeadingAttributes;

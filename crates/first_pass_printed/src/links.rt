@@ -1,10 +1,10 @@
 //! The printed form of a link definition.
 
-ghost use Rattle.std.specs.Prelude.{◌≡◌, ◌++◌, OnOk, codes};
 ghost use Rattle.first_pass_items.specs.CowText.{text_of};
 ghost use Rattle.first_pass_names.specs.TableEntries.{link_entry};
 ghost use Rattle.first_pass_printed.specs.Printed.{link_line, quoted_title, visible};
 ghost use Rattle.std.specs.Option.{option_map};
+ghost use Rattle.std.specs.Prelude.{◌≡◌, ◌++◌, OnOk, codes};
 
 use crate::node::{append_range, append_visible};
 use first_pass_items::cow_str::CowStr;

@@ -1,11 +1,11 @@
 //! The printed form of a node.
 
-ghost use Rattle.std.specs.Option.{option_map, option_and_then};
-ghost use Rattle.std.specs.Prelude.{◌≡◌, ◌++◌, OnOk, codes, decimal, encode_utf8, slice_get};
 ghost use Rattle.first_pass_attributes.specs.Attributes.{attributes_in};
 ghost use Rattle.first_pass_items.specs.declared.item.ItemBody.TheVariants.{MaybeEmphasis, MaybeMath, MaybeSmartQuote, MaybeCode, List as ListBody};
 ghost use Rattle.first_pass_names.specs.TableEntries.{names_of};
 ghost use Rattle.first_pass_printed.specs.Printed.{node_line, named_values, visible, visible_byte, kind_name, block_values, token_values, body_text, in_parentheses, flag_name, list_name, quote_name, metadata_name, indentation, written_range};
+ghost use Rattle.std.specs.Option.{option_map, option_and_then};
+ghost use Rattle.std.specs.Prelude.{◌≡◌, ◌++◌, OnOk, codes, decimal, encode_utf8, slice_get};
 
 use crate::heading::append_heading;
 use crate::table::append_alignments;

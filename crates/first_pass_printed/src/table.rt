@@ -1,7 +1,7 @@
 //! The printed form of the alignments of a table's columns.
 
-ghost use Rattle.std.specs.Prelude.{◌≡◌, ◌++◌, OnOk};
 ghost use Rattle.first_pass_printed.specs.Printed.{alignment_sign, signs_after, alignment_signs, in_parentheses};
+ghost use Rattle.std.specs.Prelude.{◌≡◌, ◌++◌, OnOk};
 
 use first_pass_items::item::Alignment;
 use std::alloc::AllocError;

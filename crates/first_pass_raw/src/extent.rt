@@ -1,16 +1,16 @@
 //! The lines of a raw leaf block: those up to the first that ends it (CommonMark 4.5, 4.6).
 
-ghost use Rattle.std.specs.Prelude.{◌≡◌, ◌≤◌, ◌⊎◌, ℕ, [], length, drop, true, false, IfOk, OnOk, IsCharBoundary};
-ghost use Rattle.first_pass_items.specs.declared.option_set.Options.{Options};
-ghost use Rattle.first_pass_tree.specs.Forest.{with_text};
-ghost use Rattle.first_pass_lines.specs.Places.{Place, place_at, line_place, line_end, IsPlaceOf};
-ghost use Rattle.first_pass_tokens.specs.TreeTokens.{JoinsNone};
-ghost use Rattle.first_pass_grammar.specs.Leaves.{document};
 ghost use Rattle.first_pass_grammar.specs.Extents.{Verdict as Judgement};
-ghost use Rattle.first_pass_open.specs.Path.{path_of};
+ghost use Rattle.first_pass_grammar.specs.Leaves.{document};
+ghost use Rattle.first_pass_items.specs.declared.option_set.Options.{Options};
+ghost use Rattle.first_pass_lines.specs.Places.{Place, place_at, line_place, line_end, IsPlaceOf};
 ghost use Rattle.first_pass_names.specs.TableEntries.{names_of, NamesMore};
+ghost use Rattle.first_pass_open.specs.Path.{path_of};
 ghost use Rattle.first_pass_raw.specs.declared.raw_line.RawKind.{RawKind};
 ghost use Rattle.first_pass_raw.specs.RawBlocks.{range_of, said, extent_from, AppendsLines, AreWhole};
+ghost use Rattle.first_pass_tokens.specs.TreeTokens.{JoinsNone};
+ghost use Rattle.first_pass_tree.specs.Forest.{with_text};
+ghost use Rattle.std.specs.Prelude.{◌≡◌, ◌≤◌, ◌⊎◌, ℕ, [], length, drop, true, false, IfOk, OnOk, IsCharBoundary};
 
 use crate::raw_line::{RawKind, RawLine, append_raw_line};
 use crate::verdict::Verdict;

@@ -1,15 +1,15 @@
 //! Fenced code blocks (CommonMark 4.5).
 
-ghost use Rattle.std.specs.Prelude.{◌≡◌, ◌≤◌, ◌+◌, ℕ, length, drop, true, None, Some, IfOk, OnOk, IsCharBoundary, IsUtf8};
-ghost use Rattle.std.specs.List.{prefix_len};
+ghost use Rattle.first_pass_grammar.specs.CodeBlocks.{info_string, closing_fence_end, IsFencedCode};
+ghost use Rattle.first_pass_grammar.specs.Leaves.{document};
 ghost use Rattle.first_pass_lines.specs.Lanes.{IsRunIn};
 ghost use Rattle.first_pass_lines.specs.Places.{place_at, IsPlaceOf};
-ghost use Rattle.first_pass_grammar.specs.Leaves.{document};
-ghost use Rattle.first_pass_open.specs.Path.{path_of};
 ghost use Rattle.first_pass_names.specs.TableEntries.{names_of, NamesMore};
-ghost use Rattle.first_pass_scan.specs.LeafLines.{code_fence};
-ghost use Rattle.first_pass_grammar.specs.CodeBlocks.{info_string, closing_fence_end, IsFencedCode};
+ghost use Rattle.first_pass_open.specs.Path.{path_of};
 ghost use Rattle.first_pass_raw.specs.RawBlocks.{AddsRaw, fenced_after, after_line_at, is_unmarked};
+ghost use Rattle.first_pass_scan.specs.LeafLines.{code_fence};
+ghost use Rattle.std.specs.List.{prefix_len};
+ghost use Rattle.std.specs.Prelude.{◌≡◌, ◌≤◌, ◌+◌, ℕ, length, drop, true, None, Some, IfOk, OnOk, IsCharBoundary, IsUtf8};
 
 use crate::extent::{JudgesLines, read_lines};
 use crate::raw_line::RawKind;

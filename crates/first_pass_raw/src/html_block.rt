@@ -1,19 +1,19 @@
 //! HTML blocks (CommonMark 4.6).
 
-ghost use Rattle.std.specs.Prelude.{◌≡◌, ◌≤◌, IfOk, OnOk, IsUtf8, IsCharBoundary};
-ghost use Rattle.first_pass_lines.specs.Places.{Place};
+ghost use Rattle.first_pass_grammar.specs.HtmlBlocks.{holds_end, IsHtml};
 ghost use Rattle.first_pass_grammar.specs.Leaves.{document};
-ghost use Rattle.first_pass_open.specs.Path.{path_of};
-ghost use Rattle.first_pass_names.specs.TableEntries.{names_of, NamesMore};
-ghost use Rattle.first_pass_items.specs.declared.item.ItemBody.TheVariants.{HtmlBlock};
-ghost use Rattle.first_pass_items.specs.declared.option_set.Options.{Options};
 ghost use Rattle.first_pass_grammar.specs.RawLines.{range_html};
 ghost use Rattle.first_pass_html.specs.Ends.{condition_of};
-ghost use Rattle.first_pass_grammar.specs.HtmlBlocks.{holds_end, IsHtml};
-ghost use Rattle.first_pass_tokens.specs.TreeTokens.{JoinsNone};
+ghost use Rattle.first_pass_items.specs.declared.item.ItemBody.TheVariants.{HtmlBlock};
+ghost use Rattle.first_pass_items.specs.declared.option_set.Options.{Options};
+ghost use Rattle.first_pass_lines.specs.Places.{Place};
+ghost use Rattle.first_pass_names.specs.TableEntries.{names_of, NamesMore};
 ghost use Rattle.first_pass_open.specs.OpenBlock.{opened_block};
+ghost use Rattle.first_pass_open.specs.Path.{path_of};
 ghost use Rattle.first_pass_raw.specs.RawBlocks.{IsPlaceAt, AppendsRaw, AddsRaw, html_to_end, html_to_blank};
 ghost use Rattle.first_pass_raw.specs.RawBlocks.{after_line_at};
+ghost use Rattle.first_pass_tokens.specs.TreeTokens.{JoinsNone};
+ghost use Rattle.std.specs.Prelude.{◌≡◌, ◌≤◌, IfOk, OnOk, IsUtf8, IsCharBoundary};
 
 use crate::extent::{JudgesLines, read_lines};
 use crate::raw_line::{RawKind, RawLine, append_raw_line};

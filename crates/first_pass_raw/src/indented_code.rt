@@ -1,15 +1,15 @@
 //! Indented code blocks (CommonMark 4.4).
 
-ghost use Rattle.std.specs.Prelude.{◌≡◌, ◌≤◌, length, drop, Some, false, if◌then◌else◌, IfOk, OnOk, IfSome};
-ghost use Rattle.std.specs.Prelude.{IsCharBoundary, IsUtf8};
-ghost use Rattle.first_pass_tree.specs.Forest.{IsChild, kept_after, with_end_at};
-ghost use Rattle.first_pass_lines.specs.Places.{Place, place_at, IsPlaceOf};
 ghost use Rattle.first_pass_grammar.specs.Leaves.{document};
 ghost use Rattle.first_pass_grammar.specs.RawLines.{range_text};
-ghost use Rattle.first_pass_open.specs.Path.{path_of, has_quote_after};
-ghost use Rattle.first_pass_names.specs.TableEntries.{names_of, NamesMore};
 ghost use Rattle.first_pass_lines.specs.Lines.{is_blank_line};
+ghost use Rattle.first_pass_lines.specs.Places.{Place, place_at, IsPlaceOf};
+ghost use Rattle.first_pass_names.specs.TableEntries.{names_of, NamesMore};
+ghost use Rattle.first_pass_open.specs.Path.{path_of, has_quote_after};
 ghost use Rattle.first_pass_raw.specs.RawBlocks.{code_rest_at, IsPlaceAt, AppendsRaw, AddsIndented, after_line_at};
+ghost use Rattle.first_pass_tree.specs.Forest.{IsChild, kept_after, with_end_at};
+ghost use Rattle.std.specs.Prelude.{IsCharBoundary, IsUtf8};
+ghost use Rattle.std.specs.Prelude.{◌≡◌, ◌≤◌, length, drop, Some, false, if◌then◌else◌, IfOk, OnOk, IfSome};
 
 use crate::raw_line::{RawKind, RawLine, append_raw_line};
 use first_pass_items::item::{Item, ItemBody};

@@ -1,11 +1,11 @@
 //! Metadata blocks.
 
-ghost use Rattle.std.specs.Prelude.{◌≡◌, ◌≤◌, IfOk, OnOk, IsCharBoundary, IsUtf8};
-ghost use Rattle.first_pass_grammar.specs.Leaves.{document};
-ghost use Rattle.first_pass_open.specs.Path.{path_of};
-ghost use Rattle.first_pass_names.specs.TableEntries.{names_of, NamesMore};
 ghost use Rattle.first_pass_grammar.specs.CodeBlocks.{IsMetadata, metadata_kind};
+ghost use Rattle.first_pass_grammar.specs.Leaves.{document};
+ghost use Rattle.first_pass_names.specs.TableEntries.{names_of, NamesMore};
+ghost use Rattle.first_pass_open.specs.Path.{path_of};
 ghost use Rattle.first_pass_raw.specs.RawBlocks.{AddsRaw, metadata_after, after_line_at};
+ghost use Rattle.std.specs.Prelude.{◌≡◌, ◌≤◌, IfOk, OnOk, IsCharBoundary, IsUtf8};
 
 use crate::extent::{JudgesLines, read_lines};
 use crate::raw_line::RawKind;

@@ -1,11 +1,11 @@
 //! Raw lines: the lines of code, metadata and HTML, in which no markup is read (CommonMark 4.4, 4.5, 4.6).
 
-ghost use Rattle.std.specs.Prelude.{◌≡◌, ◌≤◌, length, OnOk};
-ghost use Rattle.first_pass_lines.specs.Places.{offset, place_at};
 ghost use Rattle.first_pass_grammar.specs.RawLines.{ends_with_both};
-ghost use Rattle.first_pass_tokens.specs.TreeTokens.{with_tokens};
+ghost use Rattle.first_pass_lines.specs.Places.{offset, place_at};
 ghost use Rattle.first_pass_names.specs.TableEntries.{names_of, NamesMore};
 ghost use Rattle.first_pass_raw.specs.RawBlocks.{range_of, AppendsColumns, AppendsRaw};
+ghost use Rattle.first_pass_tokens.specs.TreeTokens.{with_tokens};
+ghost use Rattle.std.specs.Prelude.{◌≡◌, ◌≤◌, length, OnOk};
 
 use first_pass_items::cow_str::CowStr;
 use first_pass_items::item::{Item, ItemBody};

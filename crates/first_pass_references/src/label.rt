@@ -1,8 +1,8 @@
 //! The label between two brackets.
 
-ghost use Rattle.std.specs.Prelude.{◌≡◌, ◌++◌, IfOk, OnOk};
-ghost use Rattle.std.specs.List.{slice_range};
 ghost use Rattle.first_pass_references.specs.Pairs.{is_escaped, label_of, label_part, whole_start};
+ghost use Rattle.std.specs.List.{slice_range};
+ghost use Rattle.std.specs.Prelude.{◌≡◌, ◌++◌, IfOk, OnOk};
 
 use first_pass_items::item::{Item, ItemBody};
 use std::alloc::{AllocError, Global};

@@ -1,9 +1,9 @@
 //! The lines of link definitions, footnote definitions and references.
 
-ghost use Rattle.std.specs.Prelude.{◌≡◌, ◌++◌, OnOk};
 ghost use Rattle.first_pass_names.specs.TableEntries.{link_entry, names_of};
 ghost use Rattle.first_pass_references.specs.Lines.{definition_line, footnote_line, reference_line};
 ghost use Rattle.first_pass_references.specs.References.{reference_of};
+ghost use Rattle.std.specs.Prelude.{◌≡◌, ◌++◌, OnOk};
 
 use crate::reference::LinkReference;
 use first_pass_items::item::{Item, ItemBody};

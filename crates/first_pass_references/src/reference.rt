@@ -1,12 +1,12 @@
 //! The pairs of brackets whose label has a link definition.
 
-ghost use Rattle.std.specs.Prelude.{◌≡◌, ◌≤◌, length, IfOk};
-ghost use Rattle.std.specs.List.{prefix_len};
-ghost use Rattle.std.specs.Option.{option_map, option_copied};
 ghost use Rattle.first_pass_items.specs.CowText.{text_of};
 ghost use Rattle.first_pass_names.specs.TableEntries.{tables_of};
 ghost use Rattle.first_pass_references.specs.Pairs.{opens, closes, is_inside, closed_by, pair_after};
 ghost use Rattle.first_pass_references.specs.References.{link_named, reference_at, reference_of};
+ghost use Rattle.std.specs.List.{prefix_len};
+ghost use Rattle.std.specs.Option.{option_map, option_copied};
+ghost use Rattle.std.specs.Prelude.{◌≡◌, ◌≤◌, length, IfOk};
 
 use crate::label::label_of;
 use first_pass_items::item::{Item, ItemBody};

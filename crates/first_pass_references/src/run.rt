@@ -1,8 +1,8 @@
 //! The lines of the program `links`.
 
-ghost use Rattle.std.specs.Prelude.{◌≡◌, ◌++◌, drop, OnOk};
 ghost use Rattle.first_pass_names.specs.TableEntries.{names_of, tables_of};
 ghost use Rattle.first_pass_references.specs.Lines.{first_lines, links_lines};
+ghost use Rattle.std.specs.Prelude.{◌≡◌, ◌++◌, drop, OnOk};
 
 use crate::lines::{append_definition, append_footnote, append_reference};
 use crate::reference::reference_at;

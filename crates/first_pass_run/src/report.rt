@@ -1,9 +1,9 @@
 //! Reading a text, and writing a report on it.
 
-ghost use Rattle.std.specs.Prelude.{ℕ, List, OnOk, IfErr, IsUtf8};
-ghost use Rattle.first_pass_items.specs.declared.option_set.Options.{Options as OptionSet};
 ghost use Rattle.first_pass_host.specs.Streams.{stream_between};
+ghost use Rattle.first_pass_items.specs.declared.option_set.Options.{Options as OptionSet};
 ghost use Rattle.first_pass_run.specs.Runs.{WritesOutput, LeavesReport, LeavesBytes, Runs};
+ghost use Rattle.std.specs.Prelude.{ℕ, List, OnOk, IfErr, IsUtf8};
 
 use first_pass_host::fault::RunFault;
 use first_pass_host::input::read_whole;

@@ -1,10 +1,10 @@
 //! Lines that open or close a leaf block: thematic breaks, setext heading underlines and code fences. The width of
 //! indentation.
 
-ghost use Rattle.std.specs.List.{prefix_len};
-ghost use Rattle.std.specs.Prelude.{◌≡◌, ◌≤◌, length, None, IfSome};
 ghost use Rattle.first_pass_lines.specs.Lines.{is_space_or_tab};
 ghost use Rattle.first_pass_scan.specs.LeafLines.{run_len, in_rule, hrule_len, HasNoRule, underline_len, setext_underline, has_backquote as holds_backquote, code_fence, closing_fence_len, blank_columns, IsLongestIndent};
+ghost use Rattle.std.specs.List.{prefix_len};
+ghost use Rattle.std.specs.Prelude.{◌≡◌, ◌≤◌, length, None, IfSome};
 
 use first_pass_items::item::HeadingLevel;
 use first_pass_lines::lines::{

@@ -1,13 +1,13 @@
 //! A place in a line, and the rest of the text from there on, in columns.
 
-ghost use Rattle.std.specs.Prelude.{◌≡◌, ◌≤◌, ◌+◌, ◌<◌, ◌^◌, ◌==◌, min, nat_le, not, length, drop, is_some, IfSome, MatchOption, if◌then◌else◌, true, false};
 ghost use Rattle.first_pass_lines.specs.Lines.{at_line_end, is_blank_line};
-ghost use Rattle.first_pass_scan.specs.Blanks.{without_owed, past_blank};
-ghost use Rattle.first_pass_scan.specs.LeafLines.{hrule_len};
-ghost use Rattle.first_pass_lines.specs.Rest.{next_column, after_columns, indent, past_bytes, past_quote};
 ghost use Rattle.first_pass_lines.specs.Places.{line_rest};
 ghost use Rattle.first_pass_lines.specs.Plain.{begins_plain, begins_inert};
+ghost use Rattle.first_pass_lines.specs.Rest.{next_column, after_columns, indent, past_bytes, past_quote};
+ghost use Rattle.first_pass_scan.specs.Blanks.{without_owed, past_blank};
+ghost use Rattle.first_pass_scan.specs.LeafLines.{hrule_len};
 ghost use Rattle.first_pass_scan.specs.Markers.{list_marker, content_indent as content_after, after_marker, after_colon, item_of, listitem, definition_of, task_box, task_of, past_tag};
+ghost use Rattle.std.specs.Prelude.{◌≡◌, ◌≤◌, ◌+◌, ◌<◌, ◌^◌, ◌==◌, min, nat_le, not, length, drop, is_some, IfSome, MatchOption, if◌then◌else◌, true, false};
 
 use crate::leaf_scan::{scan_hrule, scan_rule_free};
 use crate::markers::{scan_list_marker, scan_tag_line, scan_task_box};
@@ -30,9 +30,9 @@ pub struct LineStart<'a> {
 }
 
 impl<'a> Model for LineStart<'a> {
-    ghost use Rattle.std.specs.Prelude.{drop, ◌-◌, ◌≤◌, length};
     ghost use Rattle.first_pass_lines.specs.Rest.{Rest};
     ghost use Rattle.first_pass_scan.specs.LeafLines.{HasNoRule};
+    ghost use Rattle.std.specs.Prelude.{drop, ◌-◌, ◌≤◌, length};
 
     ghost Value = { Rest };
 

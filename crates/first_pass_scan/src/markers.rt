@@ -1,10 +1,10 @@
 //! The bytes of list markers, task list item markers, and the tags of block quotes.
 
-ghost use Rattle.std.specs.List.{prefix_len};
-ghost use Rattle.std.specs.Prelude.{◌≡◌, ◌≤◌, min, length, slice_index, EachIndex, IfSome, true};
-ghost use Rattle.std.specs.Char.{is_ascii_digit};
 ghost use Rattle.first_pass_items.specs.Bytes.{digit_zero, digit_nine};
 ghost use Rattle.first_pass_scan.specs.Markers.{number_from, bullet_marker, ordered_marker, list_marker, task_box, tag_of as tag_bytes, has_tag as tag_stands, tag_kind, tag_line};
+ghost use Rattle.std.specs.Char.{is_ascii_digit};
+ghost use Rattle.std.specs.List.{prefix_len};
+ghost use Rattle.std.specs.Prelude.{◌≡◌, ◌≤◌, min, length, slice_index, EachIndex, IfSome, true};
 
 use first_pass_items::item::BlockQuoteKind;
 use first_pass_lines::lines::{is_white, is_white_or_line_end, scan_blank_line};

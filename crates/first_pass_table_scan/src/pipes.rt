@@ -1,11 +1,11 @@
 //! Whether a line has a pipe, without which it is no header row of a table (GFM 4.10).
 
-ghost use Rattle.std.specs.List.{take_while, list_any};
-ghost use Rattle.std.specs.Prelude.{◌≡◌, ◌+◌, ◌<◌, ◌≤◌, length, unwrap_or, IfSome};
 ghost use Rattle.first_pass_lines.specs.Lanes.{IsRunIn};
 ghost use Rattle.first_pass_lines.specs.Lines.{is_content};
-ghost use Rattle.first_pass_table_scan.specs.TableHead.{is_pipe};
 ghost use Rattle.first_pass_table_scan.specs.Pipes.{is_unpiped};
+ghost use Rattle.first_pass_table_scan.specs.TableHead.{is_pipe};
+ghost use Rattle.std.specs.List.{take_while, list_any};
+ghost use Rattle.std.specs.Prelude.{◌≡◌, ◌+◌, ◌<◌, ◌≤◌, length, unwrap_or, IfSome};
 
 use first_pass_lines::lanes::LANES;
 use memchr::memchr3;

@@ -1,11 +1,11 @@
 //! The delimiter row of a table, and the number of columns of its header row (GFM 4.10).
 
-ghost use Rattle.std.specs.List.{prefix_len, suffix_len, position_or_len, list_any};
-ghost use Rattle.std.specs.Prelude.{◌≡◌, ◌≤◌, ◌<◌, ◌+◌, ◌-◌, ◌==◌, true, length, take, drop, IfOk, if◌then◌else◌};
-ghost use Rattle.std.specs.Option.{option_map};
 ghost use Rattle.first_pass_items.specs.Bytes.{pipe};
 ghost use Rattle.first_pass_lines.specs.Lines.{begins, is_space_or_tab, is_white};
 ghost use Rattle.first_pass_table_scan.specs.TableHead.{is_pipe, stripped as stripped_bytes, without_first as past_first, without_last as before_last, is_hyphens as only_hyphens, alignment_by, delimiter_cell, delimiter_cells, delimiter_row, table_head, pipes_of, header_columns};
+ghost use Rattle.std.specs.List.{prefix_len, suffix_len, position_or_len, list_any};
+ghost use Rattle.std.specs.Option.{option_map};
+ghost use Rattle.std.specs.Prelude.{◌≡◌, ◌≤◌, ◌<◌, ◌+◌, ◌-◌, ◌==◌, true, length, take, drop, IfOk, if◌then◌else◌};
 
 use first_pass_items::item::Alignment;
 use first_pass_lines::lines::{

@@ -1,12 +1,12 @@
 //! Whether a table begins at a line: the number of columns of a header row, and the delimiter row after the
 //! indentation of a line (GFM 4.10).
 
-ghost use Rattle.std.specs.Option.{option_map, option_map_or};
-ghost use Rattle.std.specs.List.{take_while};
-ghost use Rattle.std.specs.Prelude.{◌≡◌, ◌≤◌, ℕ, ◌+◌, ◌-◌, ◌==◌, ◌&&◌, ◌||◌, not, nat_lt, length, slice_index, Some, IfOk};
 ghost use Rattle.first_pass_items.specs.Bytes.{hyphen, colon, backslash, pipe};
 ghost use Rattle.first_pass_lines.specs.Lines.{begins, is_content};
 ghost use Rattle.first_pass_table_scan.specs.TableHead.{is_pipe, head_columns, columns_by_pipes, delimiter_row_of, last_pipe_after, pipes_of};
+ghost use Rattle.std.specs.List.{take_while};
+ghost use Rattle.std.specs.Option.{option_map, option_map_or};
+ghost use Rattle.std.specs.Prelude.{◌≡◌, ◌≤◌, ℕ, ◌+◌, ◌-◌, ◌==◌, ◌&&◌, ◌||◌, not, nat_lt, length, slice_index, Some, IfOk};
 
 use crate::table_scan::{count_header_cols, scan_alignments};
 use first_pass_items::item::Alignment;

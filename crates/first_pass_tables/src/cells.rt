@@ -1,15 +1,15 @@
 //! The cells of a row, one by one (GFM 4.10).
 
-ghost use Rattle.std.specs.Prelude.{◌≡◌, ◌+◌, ◌≤◌, true, None, length, drop, replicate, IfOk, OnOk, IfSome};
-ghost use Rattle.first_pass_lines.specs.Lines.{eol_len};
-ghost use Rattle.first_pass_tree.specs.Forest.{IsChild};
-ghost use Rattle.first_pass_walk.specs.Walk.{MarksSpecial};
-ghost use Rattle.first_pass_tokens.specs.LineTokens.{spot};
-ghost use Rattle.first_pass_tokens.specs.TreeTokens.{chained};
-ghost use Rattle.first_pass_names.specs.TableEntries.{names_of, AddsTexts, NamesMore};
 ghost use Rattle.first_pass_grammar.specs.Leaves.{document};
 ghost use Rattle.first_pass_grammar.specs.Tables.{cell_start, cell_text};
+ghost use Rattle.first_pass_lines.specs.Lines.{eol_len};
+ghost use Rattle.first_pass_names.specs.TableEntries.{names_of, AddsTexts, NamesMore};
 ghost use Rattle.first_pass_tables.specs.Appends.{AddsCell, empty_cell, without_after};
+ghost use Rattle.first_pass_tokens.specs.LineTokens.{spot};
+ghost use Rattle.first_pass_tokens.specs.TreeTokens.{chained};
+ghost use Rattle.first_pass_tree.specs.Forest.{IsChild};
+ghost use Rattle.first_pass_walk.specs.Walk.{MarksSpecial};
+ghost use Rattle.std.specs.Prelude.{◌≡◌, ◌+◌, ◌≤◌, true, None, length, drop, replicate, IfOk, OnOk, IfSome};
 
 use first_pass_items::item::{Item, ItemBody};
 use first_pass_lines::lines::{begins, scan_eol, scan_whitespace_no_nl};

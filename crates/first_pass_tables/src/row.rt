@@ -1,14 +1,14 @@
 //! A row of a table (GFM 4.10).
 
-ghost use Rattle.std.specs.Prelude.{◌≡◌, ◌≤◌, ◌&&◌, ◌||◌, not, nat_lt, nat_le, IsTrue, ℕ, length, OnOk, IfOk, IfSome, IsUtf8, IsCharBoundary};
-ghost use Rattle.first_pass_tree.specs.declared.tree_index.TreeIndex.{TreeIndex};
-ghost use Rattle.first_pass_tokens.specs.LineTokens.{spot};
-ghost use Rattle.first_pass_names.specs.TableEntries.{names_of, AddsTexts, NamesMore};
 ghost use Rattle.first_pass_grammar.specs.Leaves.{document};
-ghost use Rattle.first_pass_open.specs.OpenBlock.{IsJustPushed};
+ghost use Rattle.first_pass_names.specs.TableEntries.{names_of, AddsTexts, NamesMore};
 ghost use Rattle.first_pass_open.specs.Between.{AddsBetween};
+ghost use Rattle.first_pass_open.specs.OpenBlock.{IsJustPushed};
 ghost use Rattle.first_pass_tables.specs.Appends.{AppendsCells, AddsHead, IsOpenNode, open_table, ReadsRow};
 ghost use Rattle.first_pass_tables.specs.Reading.{AppendsSome};
+ghost use Rattle.first_pass_tokens.specs.LineTokens.{spot};
+ghost use Rattle.first_pass_tree.specs.declared.tree_index.TreeIndex.{TreeIndex};
+ghost use Rattle.std.specs.Prelude.{◌≡◌, ◌≤◌, ◌&&◌, ◌||◌, not, nat_lt, nat_le, IsTrue, ℕ, length, OnOk, IfOk, IfSome, IsUtf8, IsCharBoundary};
 
 use crate::cells::{append_table_cell, cell_at, drop_beyond, fill_row};
 use first_pass_items::item::{Item, ItemBody};

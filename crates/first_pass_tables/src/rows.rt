@@ -1,17 +1,17 @@
 //! The rows of a table, one after the other (GFM 4.10).
 
-ghost use Rattle.std.specs.Prelude.{◌≡◌, ◌≤◌, None, ℕ, drop, IfOk, OnOk, IfSome, IsUtf8, IsCharBoundary};
-ghost use Rattle.first_pass_lines.specs.Places.{line_place};
-ghost use Rattle.first_pass_tree.specs.declared.tree_index.TreeIndex.{TreeIndex};
-ghost use Rattle.first_pass_names.specs.TableEntries.{names_of, AddsTexts, NamesMore};
 ghost use Rattle.first_pass_grammar.specs.Leaves.{document};
 ghost use Rattle.first_pass_grammar.specs.Tables.{interrupts_row, row_text};
+ghost use Rattle.first_pass_lines.specs.Places.{line_place};
+ghost use Rattle.first_pass_names.specs.TableEntries.{names_of, AddsTexts, NamesMore};
+ghost use Rattle.first_pass_open.specs.Between.{AddsBetween};
+ghost use Rattle.first_pass_open.specs.Between.{line_end_at};
 ghost use Rattle.first_pass_open.specs.OpenBlock.{IsJustPushed};
 ghost use Rattle.first_pass_open.specs.Path.{context_of};
-ghost use Rattle.first_pass_open.specs.Between.{line_end_at};
-ghost use Rattle.first_pass_open.specs.Between.{AddsBetween};
 ghost use Rattle.first_pass_tables.specs.Appends.{IsOpenNode, open_table, ReadsRowLine, AppendsRows, AddsWholeRows, ClosesBetween};
 ghost use Rattle.first_pass_tables.specs.RowsRead.{AppendsBody};
+ghost use Rattle.first_pass_tree.specs.declared.tree_index.TreeIndex.{TreeIndex};
+ghost use Rattle.std.specs.Prelude.{◌≡◌, ◌≤◌, None, ℕ, drop, IfOk, OnOk, IfSome, IsUtf8, IsCharBoundary};
 
 use crate::row::{CellsWanted, TableSoFar, append_head_row, parse_table_row_inner};
 use bitflags::Flags;

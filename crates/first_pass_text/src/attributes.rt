@@ -1,18 +1,18 @@
 //! The attribute block at the end of a heading's text (this project).
 
-ghost use Rattle.std.specs.Prelude.{◌≡◌, ◌≤◌, ◌+◌, ◌-◌, List, length, take, drop, slice_get, is_some, true, IfOk, IfSome, IfNone, IsSomeAnd, OnOk, OnErr, Some, None, if◌then◌else◌};
-ghost use Rattle.std.specs.List.{slice_range, suffix_len};
-ghost use Rattle.first_pass_lines.specs.Lines.{is_white};
-ghost use Rattle.std.specs.Option.{option_map};
-ghost use Rattle.first_pass_items.specs.declared.item.Item.{Item};
-ghost use Rattle.first_pass_tree.specs.Forest.{Forest, item_at};
-ghost use Rattle.first_pass_tokens.specs.TreeTokens.{chained};
 ghost use Rattle.first_pass_attributes.specs.Attributes.{attributes_in, attributes_of, HasSeveral};
 ghost use Rattle.first_pass_grammar.specs.Headings.{before_attributes, heading_attributes_of, chain_end as chain_end_of};
 ghost use Rattle.first_pass_grammar.specs.Leaves.{document};
 ghost use Rattle.first_pass_grammar.specs.Names.{Names, Extends, NamesAttributes, NamesEntry, AttributesAt};
+ghost use Rattle.first_pass_items.specs.declared.item.Item.{Item};
+ghost use Rattle.first_pass_lines.specs.Lines.{is_white};
 ghost use Rattle.first_pass_names.specs.TableEntries.{names_of, NamesMore};
 ghost use Rattle.first_pass_text.specs.CutTexts.{IsLastAndChildless, CutsBlock, CutsChildren, BecomesHeading};
+ghost use Rattle.first_pass_tokens.specs.TreeTokens.{chained};
+ghost use Rattle.first_pass_tree.specs.Forest.{Forest, item_at};
+ghost use Rattle.std.specs.List.{slice_range, suffix_len};
+ghost use Rattle.std.specs.Option.{option_map};
+ghost use Rattle.std.specs.Prelude.{◌≡◌, ◌≤◌, ◌+◌, ◌-◌, List, length, take, drop, slice_get, is_some, true, IfOk, IfSome, IfNone, IsSomeAnd, OnOk, OnErr, Some, None, if◌then◌else◌};
 
 use bitflags::Flags;
 use first_pass_attributes::attrs::{

@@ -1,20 +1,20 @@
 //! The text of an ATX heading.
 
+ghost use Rattle.first_pass_grammar.specs.Headings.{heading_attributes_of};
+ghost use Rattle.first_pass_grammar.specs.Leaves.{document, is_space_or_line_end, kept_len as kept_len_of, heading_text_at};
+ghost use Rattle.first_pass_grammar.specs.Names.{Names, Extends, NamesAttributes};
+ghost use Rattle.first_pass_lines.specs.Lines.{atx_level as atx_level_of, level_number as number_of};
+ghost use Rattle.first_pass_names.specs.TableEntries.{names_of, NamesMore};
+ghost use Rattle.first_pass_open.specs.Between.{AddsBetween, line_end_at};
+ghost use Rattle.first_pass_open.specs.OpenBlock.{IsJustPushed};
+ghost use Rattle.first_pass_text.specs.Appends.{AppendsHeading, AddsHeading, line_from, attribute_place};
+ghost use Rattle.first_pass_text.specs.PlainHeadings.{IsPlainHeading};
+ghost use Rattle.first_pass_tokens.specs.Braces.{no_braces};
+ghost use Rattle.first_pass_tokens.specs.Pieces.{source, text_upto};
+ghost use Rattle.first_pass_walk.specs.Walk.{MarksSpecial};
 ghost use Rattle.std.specs.List.{slice_range, suffix_len};
 ghost use Rattle.std.specs.Option.{option_map, option_map_or, unwrap_or};
 ghost use Rattle.std.specs.Prelude.{◌≡◌, ℕ, ◌==◌, ◌+◌, ◌-◌, take, drop, ◌≤◌, Some, length, None, IfOk, IfSome, OnOk, IsCharBoundary, false};
-ghost use Rattle.first_pass_walk.specs.Walk.{MarksSpecial};
-ghost use Rattle.first_pass_lines.specs.Lines.{atx_level as atx_level_of, level_number as number_of};
-ghost use Rattle.first_pass_names.specs.TableEntries.{names_of, NamesMore};
-ghost use Rattle.first_pass_grammar.specs.Headings.{heading_attributes_of};
-ghost use Rattle.first_pass_grammar.specs.Names.{Names, Extends, NamesAttributes};
-ghost use Rattle.first_pass_grammar.specs.Leaves.{document, is_space_or_line_end, kept_len as kept_len_of, heading_text_at};
-ghost use Rattle.first_pass_open.specs.Between.{AddsBetween, line_end_at};
-ghost use Rattle.first_pass_text.specs.Appends.{AppendsHeading, AddsHeading, line_from, attribute_place};
-ghost use Rattle.first_pass_text.specs.PlainHeadings.{IsPlainHeading};
-ghost use Rattle.first_pass_open.specs.OpenBlock.{IsJustPushed};
-ghost use Rattle.first_pass_tokens.specs.Braces.{no_braces};
-ghost use Rattle.first_pass_tokens.specs.Pieces.{source, text_upto};
 
 use crate::attributes::name_attributes;
 use crate::paragraph::append_last_backslash;

@@ -1,8 +1,8 @@
 //! The break after a line, while the next line is read.
 
-ghost use Rattle.std.specs.Prelude.{◌≡◌, true, IfSome};
-ghost use Rattle.first_pass_tokens.specs.LineTokens.{is_break};
 ghost use Rattle.first_pass_text.specs.LineBreaks.{body_of, break_item};
+ghost use Rattle.first_pass_tokens.specs.LineTokens.{is_break};
+ghost use Rattle.std.specs.Prelude.{◌≡◌, true, IfSome};
 
 use first_pass_items::item::{Item, ItemBody};
 

@@ -1,15 +1,15 @@
 //! The lines of a paragraph or of a setext heading.
 
-ghost use Rattle.std.specs.Prelude.{◌≡◌, ◌<◌, ◌^◌, ℕ, false, true, length, min, None, IfOk, IfSome, OnOk, IsUtf8, IsCharBoundary};
-ghost use Rattle.first_pass_tokens.specs.TreeTokens.{JoinsNone};
-ghost use Rattle.first_pass_names.specs.TableEntries.{names_of, NamesMore};
-ghost use Rattle.first_pass_grammar.specs.Texts.{by_backslash};
 ghost use Rattle.first_pass_grammar.specs.Leaves.{document};
-ghost use Rattle.first_pass_tree.specs.Forest.{is_text};
+ghost use Rattle.first_pass_grammar.specs.Texts.{by_backslash};
+ghost use Rattle.first_pass_kinds.specs.Fronts.{KnowsFront};
+ghost use Rattle.first_pass_names.specs.TableEntries.{names_of, NamesMore};
+ghost use Rattle.first_pass_open.specs.Between.{AddsBetween, MarkerIsInItem, MarkerBetween};
 ghost use Rattle.first_pass_text.specs.Appends.{AppendsLines, AddsPlainText, with_closed_break};
 ghost use Rattle.first_pass_text.specs.LineBreaks.{break_item};
-ghost use Rattle.first_pass_kinds.specs.Fronts.{KnowsFront};
-ghost use Rattle.first_pass_open.specs.Between.{AddsBetween, MarkerIsInItem, MarkerBetween};
+ghost use Rattle.first_pass_tokens.specs.TreeTokens.{JoinsNone};
+ghost use Rattle.first_pass_tree.specs.Forest.{is_text};
+ghost use Rattle.std.specs.Prelude.{◌≡◌, ◌<◌, ◌^◌, ℕ, false, true, length, min, None, IfOk, IfSome, OnOk, IsUtf8, IsCharBoundary};
 
 use crate::attributes::{Underlined, make_heading};
 use crate::line_break::{LineBreak, break_item, held_break};

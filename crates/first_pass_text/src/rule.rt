@@ -1,9 +1,9 @@
 //! Thematic breaks.
 
-ghost use Rattle.std.specs.Prelude.{◌≡◌, ℕ, ◌+◌, ◌<◌, ◌≤◌, ◌^◌, List, IsCharBoundary, IfOk, OnOk};
-ghost use Rattle.first_pass_tree.specs.Forest.{added};
 ghost use Rattle.first_pass_grammar.specs.Leaves.{rule_block};
 ghost use Rattle.first_pass_open.specs.Between.{AddsBetween};
+ghost use Rattle.first_pass_tree.specs.Forest.{added};
+ghost use Rattle.std.specs.Prelude.{◌≡◌, ℕ, ◌+◌, ◌<◌, ◌≤◌, ◌^◌, List, IsCharBoundary, IfOk, OnOk};
 
 use first_pass_items::item::{Item, ItemBody};
 use first_pass_tree::forest::Tree;

@@ -1,7 +1,7 @@
 //! The clock that times runs.
 
-ghost use Rattle.std.specs.Prelude.{ℕ, ◌∷◌, [], List, Option, None, IfOk};
 ghost use Rattle.std.specs.Io.KnownBytes.{Consumes};
+ghost use Rattle.std.specs.Prelude.{ℕ, ◌∷◌, [], List, Option, None, IfOk};
 
 use std::io;
 use std::rt::Clock;

@@ -1,7 +1,7 @@
 //! The line of output for a timing.
 
-ghost use Rattle.std.specs.Prelude.{◌≡◌, ◌++◌, OnOk};
 ghost use Rattle.first_pass_timing.specs.Report.{report_line, counts_text, time_text, rate, tenths, thousandths};
+ghost use Rattle.std.specs.Prelude.{◌≡◌, ◌++◌, OnOk};
 
 use crate::timing::Timing;
 use itoa::{Buffer, Integer};

@@ -1,8 +1,8 @@
 //! The task in the words after the program's name.
 
-ghost use Rattle.std.specs.Prelude.{ℕ, IfSome, IsNone};
 ghost use Rattle.first_pass_timing.specs.declared.task.Task.{Task};
 ghost use Rattle.first_pass_timing.specs.Task.{AskFor, AsksFor};
+ghost use Rattle.std.specs.Prelude.{ℕ, IfSome, IsNone};
 
 use first_pass_host::option_word::{begins_with_plus, parse_options};
 use first_pass_items::option_set::Options;

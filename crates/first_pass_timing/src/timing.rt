@@ -1,9 +1,9 @@
 //! The results of timed runs, and when runs are enough.
 
-ghost use Rattle.std.specs.Prelude.{◌≡◌, ◌+◌, ◌-◌, ◌<◌, min, false, ◌∷◌, [], IfOk, IfErr};
-ghost use Rattle.std.specs.Io.KnownBytes.{Consumes};
 ghost use Rattle.first_pass_host.specs.declared.fault.RunFault.TheVariants.{ReadFailed};
 ghost use Rattle.first_pass_timing.specs.Timing.{enough};
+ghost use Rattle.std.specs.Io.KnownBytes.{Consumes};
+ghost use Rattle.std.specs.Prelude.{◌≡◌, ◌+◌, ◌-◌, ◌<◌, min, false, ◌∷◌, [], IfOk, IfErr};
 
 use crate::clock::TimeSource;
 use first_pass_host::fault::RunFault;

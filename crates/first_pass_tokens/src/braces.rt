@@ -1,7 +1,7 @@
 //! Brace contexts: the braces around a dollar sign.
 
-ghost use Rattle.std.specs.Prelude.{◌≡◌};
 ghost use Rattle.first_pass_tokens.specs.Braces.{no_braces, dollar_context, after_dollar, after_open, after_close};
+ghost use Rattle.std.specs.Prelude.{◌≡◌};
 
 use std::marker::Model;
 
@@ -18,8 +18,8 @@ pub struct BraceContexts {
 }
 
 impl Model for BraceContexts {
-    ghost use Rattle.std.specs.Prelude.{◌≤◌, take};
     ghost use Rattle.first_pass_tokens.specs.Braces.{MathBraces};
+    ghost use Rattle.std.specs.Prelude.{◌≤◌, take};
 
     ghost Value = { MathBraces };
 

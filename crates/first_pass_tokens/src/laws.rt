@@ -1,17 +1,17 @@
 //! Laws of the definitions.
 
-ghost use Rattle.std.specs.Prelude.{◌≡◌, ◌<◌, ◌≤◌, ℕ, List, Option, true, false, length, slice_index};
-ghost use Rattle.first_pass_items.specs.OptionWords.{has, tables};
 ghost use Rattle.first_pass_items.specs.declared.cow_str.CowStr.{CowStr};
 ghost use Rattle.first_pass_items.specs.declared.item.Item.{Item};
+ghost use Rattle.first_pass_items.specs.OptionWords.{has, tables};
 ghost use Rattle.first_pass_lines.specs.Lines.{is_line_end};
-ghost use Rattle.first_pass_tokens.specs.declared.pieces.Piece.{Piece};
-ghost use Rattle.first_pass_tokens.specs.Braces.{MathBraces};
-ghost use Rattle.first_pass_tokens.specs.Pieces.{Inline};
 ghost use Rattle.first_pass_tokens.specs.Alike.{AreAlike};
+ghost use Rattle.first_pass_tokens.specs.Braces.{MathBraces};
 ghost use Rattle.first_pass_tokens.specs.Chains.{AreApart};
+ghost use Rattle.first_pass_tokens.specs.declared.pieces.Piece.{Piece};
 ghost use Rattle.first_pass_tokens.specs.LineTokens.{Spot, AreLineTokens, IsCell, IsInPieces};
 ghost use Rattle.first_pass_tokens.specs.MarkupBytes.{StandOver, TextsHaveNoBackquote, PipesAreEscaped};
+ghost use Rattle.first_pass_tokens.specs.Pieces.{Inline};
+ghost use Rattle.std.specs.Prelude.{◌≡◌, ◌<◌, ◌≤◌, ℕ, List, Option, true, false, length, slice_index};
 
 /// A line has only one list of tokens (except for the indices of the texts that they name), one end and break, and
 /// one list of brace contexts after it.

@@ -1,19 +1,19 @@
 //! The tokens of a line, appended to the tree.
 
-ghost use Rattle.std.specs.Prelude.{◌≡◌, ℕ, ◌==◌, ◌&&◌, ◌%◌, nat_lt, ◌+◌, ◌-◌, ◌<◌, ◌≤◌, ◌^◌, not, true, false, IsTrue, IsUtf8, List, [], length, slice_index, OnOk, IfOk, IfSome, IfNone};
-ghost use Rattle.std.specs.List.{suffix_len, slice_range};
 ghost use Rattle.first_pass_items.specs.Bytes.{backslash, pipe, space};
 ghost use Rattle.first_pass_items.specs.declared.cow_str.CowStr.{CowStr};
 ghost use Rattle.first_pass_lines.specs.Lines.{is_white as is_white_byte};
-ghost use Rattle.first_pass_walk.specs.Walk.{MarksSpecial, is_marked};
-ghost use Rattle.first_pass_tree.specs.Forest.{with_text};
 ghost use Rattle.first_pass_tokens.specs.Braces.{MathBraces};
-ghost use Rattle.first_pass_tokens.specs.NamedTexts.{AreMore};
-ghost use Rattle.first_pass_tokens.specs.Pieces.{source, content_in, text_upto, size};
-ghost use Rattle.first_pass_tokens.specs.LineTokens.{spot, is_near_pipe, line_end_len, text_end, break_of, line_break, content_ends_at, EndsAtFirstMark, EndsLine, EndsCell, IsCell};
-ghost use Rattle.first_pass_tokens.specs.TreeTokens.{with_tokens, AppendsLine, AppendsCell};
 ghost use Rattle.first_pass_tokens.specs.Chains.{run_tokens, add_text};
 ghost use Rattle.first_pass_tokens.specs.HeldText.{held_after, tree_after, IsHeldTo};
+ghost use Rattle.first_pass_tokens.specs.LineTokens.{spot, is_near_pipe, line_end_len, text_end, break_of, line_break, content_ends_at, EndsAtFirstMark, EndsLine, EndsCell, IsCell};
+ghost use Rattle.first_pass_tokens.specs.NamedTexts.{AreMore};
+ghost use Rattle.first_pass_tokens.specs.Pieces.{source, content_in, text_upto, size};
+ghost use Rattle.first_pass_tokens.specs.TreeTokens.{with_tokens, AppendsLine, AppendsCell};
+ghost use Rattle.first_pass_tree.specs.Forest.{with_text};
+ghost use Rattle.first_pass_walk.specs.Walk.{MarksSpecial, is_marked};
+ghost use Rattle.std.specs.List.{suffix_len, slice_range};
+ghost use Rattle.std.specs.Prelude.{◌≡◌, ℕ, ◌==◌, ◌&&◌, ◌%◌, nat_lt, ◌+◌, ◌-◌, ◌<◌, ◌≤◌, ◌^◌, not, true, false, IsTrue, IsUtf8, List, [], length, slice_index, OnOk, IfOk, IfSome, IfNone};
 
 use crate::braces::BraceContexts;
 use crate::named::named_piece;

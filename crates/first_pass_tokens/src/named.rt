@@ -1,12 +1,12 @@
 //! The texts that tokens name: those of references (CommonMark 2.5), and of runs of four and more hyphens.
 
-ghost use Rattle.std.specs.Prelude.{◌≡◌, ◌+◌, ◌*◌, [], ◌∷◌, ◌++◌, ◌≤◌, encode_utf8, IfOk, OnOk};
-ghost use Rattle.std.specs.String.{string_bytes};
-ghost use Rattle.first_pass_items.specs.CowText.{text_of};
 ghost use Rattle.first_pass_entities.specs.Texts.{TakesNoMemory};
-ghost use Rattle.first_pass_tokens.specs.Pieces.{found_size, size};
+ghost use Rattle.first_pass_items.specs.CowText.{text_of};
 ghost use Rattle.first_pass_tokens.specs.Braces.{braces_after};
 ghost use Rattle.first_pass_tokens.specs.NamedTexts.{times, dash_counts, dashes, IsNamingToken, MakesPiece, AreMore, AddsNamed};
+ghost use Rattle.first_pass_tokens.specs.Pieces.{found_size, size};
+ghost use Rattle.std.specs.Prelude.{◌≡◌, ◌+◌, ◌*◌, [], ◌∷◌, ◌++◌, ◌≤◌, encode_utf8, IfOk, OnOk};
+ghost use Rattle.std.specs.String.{string_bytes};
 
 use crate::braces::BraceContexts;
 use crate::pieces::{Piece, TokenStart};

@@ -1,9 +1,9 @@
 //! The pieces of the content of a line: the one that begins at an offset.
 
-ghost use Rattle.std.specs.Prelude.{◌≡◌, ◌||◌, ◌+◌, ◌<◌, ◌≤◌, ◌^◌, true, false, IfSome, is_some, length, slice_index, take, ℕ, List, IsCharBoundary, IsUtf8};
 ghost use Rattle.first_pass_items.specs.Bytes.{backslash, backquote, hyphen, full_stop, underscore};
 ghost use Rattle.first_pass_tokens.specs.Braces.{MathBraces};
 ghost use Rattle.first_pass_tokens.specs.Pieces.{content_in, IsReadyAt, is_quick_at, is_inside_word, is_solid_at, dollar_found, special_found, reference_found, dash_found, found_size, FoundSolid, special_piece, backslash_piece, backslash_piece_in, backquote_piece, is_delimiter, char_before, run_in, run_size, is_quote, quote_piece, dot_piece, run_piece, delimiter_piece, run_at, size, EndsSolid};
+ghost use Rattle.std.specs.Prelude.{◌≡◌, ◌||◌, ◌+◌, ◌<◌, ◌≤◌, ◌^◌, true, false, IfSome, is_some, length, slice_index, take, ℕ, List, IsCharBoundary, IsUtf8};
 
 use first_pass_entities::entity::scan_reference;
 use first_pass_flank::flank::{DelimiterRun, ends_with_pipe, first_char, last_char};

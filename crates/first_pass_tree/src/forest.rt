@@ -1,9 +1,9 @@
 //! The tree as a list of nodes in reading order, with the path of its open nodes.
 
-ghost use Rattle.std.specs.Prelude.{◌≡◌, ◌+◌, ◌<◌, ◌≤◌, ◌∷◌, [], ◌-◌, length, reverse, Some, None, IfOk, IfSome, OnOk, OnErr, IsSome, MatchOption, slice_get};
 ghost use Rattle.first_pass_tree.specs.Forest.{empty_forest, appended, pushed, popped, cut_to, with_text, with_item, with_end_at, with_body_at, item_at, depths, child_of, sibling_of, kept_after, childless, in_table, wrapped, IsChildOfCurrent, CanMoveFrom, moved_from, moved_out, IsChild, cut_siblings, IsForest, end_of, open_place, added, block_of, text_between};
 ghost use Rattle.first_pass_tree.specs.Subtrees.{IsSubtree};
 ghost use Rattle.std.specs.Borrow.{sem};
+ghost use Rattle.std.specs.Prelude.{◌≡◌, ◌+◌, ◌<◌, ◌≤◌, ◌∷◌, [], ◌-◌, length, reverse, Some, None, IfOk, IfSome, OnOk, OnErr, IsSome, MatchOption, slice_get};
 
 use crate::node_list::{
     cut_nodes, deeper_end, first_place, in_table_of, is_single_before, last_child, last_of_depth,
@@ -30,9 +30,9 @@ pub struct Tree<T> {
 }
 
 impl<T> Model for Tree<T> {
-    ghost use Rattle.std.specs.Prelude.{reverse};
     ghost use Rattle.first_pass_tree.specs.Forest.{Forest};
     ghost use Rattle.first_pass_tree.specs.Subtrees.{IsTree};
+    ghost use Rattle.std.specs.Prelude.{reverse};
 
     ghost Value = { Forest T };
 

@@ -1,7 +1,7 @@
 //! Operations on the list of nodes in reading order; each node is a pair of its depth and its item.
 
-ghost use Rattle.std.specs.Prelude.{◌≡◌, ℕ, ◌+◌, ◌<◌, ◌≤◌, ◌∷◌, slice_index, ◌++◌, ◌^◌, ◌-◌, length, take, drop, reverse, map, Some, None, EachIndex, if◌then◌else◌, nat_lt, IfSome, OnOk, OnErr, slice_get};
 ghost use Rattle.first_pass_tree.specs.Forest.{depths, sibling_of, run_end, in_table, shallower, last_before, deeper, map_from, IsShallow, open_place, cut_tokens, is_single_before, IsOpenPath};
+ghost use Rattle.std.specs.Prelude.{◌≡◌, ℕ, ◌+◌, ◌<◌, ◌≤◌, ◌∷◌, slice_index, ◌++◌, ◌^◌, ◌-◌, length, take, drop, reverse, map, Some, None, EachIndex, if◌then◌else◌, nat_lt, IfSome, OnOk, OnErr, slice_get};
 
 use crate::tree_index::TreeIndex;
 use first_pass_items::item::{Item, ItemBody};

@@ -1,7 +1,7 @@
 //! The recorded subtrees of a tree: where each begins, and how far it is known to reach.
 
-ghost use Rattle.std.specs.Prelude.{◌≡◌, ◌-◌, ◌<◌, ◌∷◌, [], OnOk, OnErr};
 ghost use Rattle.first_pass_tree.specs.Subtrees.{subtree, within_first, ended, last_between, left_between};
+ghost use Rattle.std.specs.Prelude.{◌≡◌, ◌-◌, ◌<◌, ◌∷◌, [], OnOk, OnErr};
 
 use std::alloc::{AllocError, Global};
 use std::marker::Model;
@@ -21,8 +21,8 @@ pub(crate) struct Subtrees {
 }
 
 impl Model for Subtrees {
-    ghost use Rattle.std.specs.Prelude.{List, reverse};
     ghost use Rattle.first_pass_tree.specs.declared.subtrees.Subtree.{Subtree};
+    ghost use Rattle.std.specs.Prelude.{List, reverse};
 
     ghost Value = { List Subtree };
 

@@ -1,8 +1,8 @@
 //! Making the paragraphs of a list tight (CommonMark 5.3).
 
-ghost use Rattle.std.specs.Prelude.{◌≡◌, ◌+◌, ◌<◌, ◌≤◌, ℕ, length, slice_index};
 ghost use Rattle.first_pass_tree.specs.Forest.{Forest, depths};
 ghost use Rattle.first_pass_tree.specs.Tight.{with_tight_node, tight_from, tight_items};
+ghost use Rattle.std.specs.Prelude.{◌≡◌, ◌+◌, ◌<◌, ◌≤◌, ℕ, length, slice_index};
 
 use crate::forest::Tree;
 use crate::subtrees::Subtree;

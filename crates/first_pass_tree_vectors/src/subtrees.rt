@@ -1,7 +1,7 @@
 //! The recorded subtrees of a tree, over several calls.
 
-ghost use Rattle.std.specs.Prelude.{◌≡◌};
 ghost use Rattle.first_pass_tree.specs.Forest.{empty_forest};
+ghost use Rattle.std.specs.Prelude.{◌≡◌};
 
 use crate::steps::{Step, item, take_each};
 use first_pass_items::item::{Item, ItemBody, ListFlags};

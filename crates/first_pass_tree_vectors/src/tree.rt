@@ -1,7 +1,7 @@
 //! The calls of a tree, in sequence.
 
-ghost use Rattle.std.specs.Prelude.{◌≡◌};
 ghost use Rattle.first_pass_tree.specs.Forest.{empty_forest};
+ghost use Rattle.std.specs.Prelude.{◌≡◌};
 
 use crate::steps::{Step, item, take_each, text};
 use first_pass_items::item::{AlignmentIndex, Item, ItemBody, ListFlags};

@@ -1,7 +1,7 @@
 //! Each call of the pass that allocates, once without a failing allocation.
 
-ghost use Rattle.std.specs.Prelude.{◌≡◌, IsCharBoundary};
 ghost use Rattle.first_pass.specs.Views.{source_text};
+ghost use Rattle.std.specs.Prelude.{◌≡◌, IsCharBoundary};
 
 use bitflags::Flags;
 use first_pass::below::{Item, ItemBody, TreeIndex};

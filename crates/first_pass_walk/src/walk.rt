@@ -1,9 +1,9 @@
 //! The special bytes, and the walk over them. At a special byte, a token other than plain text may begin, a cell may
 //! end (`|`), or a brace context may open or close (`{` and `}`).
 
-ghost use Rattle.std.specs.Prelude.{◌≡◌, ℕ, ◌+◌, ◌^◌, ◌≤◌, ◌<◌, false, length, IfSome, IfNone};
 ghost use Rattle.first_pass_walk.specs.Walk.{is_special as is_special_byte, MarksSpecial, is_marked, IsNextMarked, NoneMarkedFrom, IsWalk, SparesWords, AreWordStops, IsFirstStop};
 ghost use Rattle.std.specs.Int.{bit_at};
+ghost use Rattle.std.specs.Prelude.{◌≡◌, ℕ, ◌+◌, ◌^◌, ◌≤◌, ◌<◌, false, length, IfSome, IfNone};
 
 use bitflags::Flags;
 use first_pass_items::option_set::Options;

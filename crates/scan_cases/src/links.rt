@@ -1,7 +1,7 @@
 //! Calls of `first_pass_links`.
 
-ghost use Rattle.std.specs.Prelude.{◌≡◌, ◌<◌, length, slice_index, IfSome};
 ghost use Rattle.first_pass_items.specs.Bytes.{space};
+ghost use Rattle.std.specs.Prelude.{◌≡◌, ◌<◌, length, slice_index, IfSome};
 
 use crate::call::Call;
 use first_pass_cases::answer::Answer;
