@@ -3,12 +3,4 @@
 #![tactic(auto)]
 
 #[cfg(test)]
-mod columns;
-#[cfg(test)]
-mod labels;
-#[cfg(test)]
-mod samples;
-#[cfg(test)]
-mod titles;
-#[cfg(test)]
-mod walks;
+mod tests;

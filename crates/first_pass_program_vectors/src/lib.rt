@@ -2,16 +2,4 @@
 #![tactic(auto)]
 
 #[cfg(test)]
-mod bench;
-#[cfg(test)]
-mod fakes;
-#[cfg(test)]
-mod faults;
-#[cfg(test)]
-mod links;
-#[cfg(test)]
-mod outline;
-#[cfg(test)]
-mod table_lines;
-#[cfg(test)]
-mod tree;
+mod tests;

@@ -2,12 +2,4 @@
 #![tactic(auto)]
 
 #[cfg(test)]
-mod pieces;
-#[cfg(test)]
-mod ranges;
-#[cfg(test)]
-mod steps;
-#[cfg(test)]
-mod subtrees;
-#[cfg(test)]
-mod tree;
+mod tests;

@@ -1,6 +1,6 @@
 //! The output of `tree` for texts, and each fault of its run.
 
-use crate::fakes::{Given, Pace, Program, assert_fault, assert_lines};
+use super::fakes::{Given, Pace, Program, assert_fault, assert_lines};
 use first_pass_host::fault::RunFault;
 use std::test::Fail;
 

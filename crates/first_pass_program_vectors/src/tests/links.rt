@@ -1,6 +1,6 @@
 //! The output of `links` for texts, and its faults.
 
-use crate::fakes::{Given, Program, assert_fault, assert_lines};
+use super::fakes::{Given, Program, assert_fault, assert_lines};
 use first_pass_host::fault::RunFault;
 use std::test::Fail;
 

@@ -1,6 +1,6 @@
 //! Each fault of a run, and the output before it.
 
-use crate::fakes::{
+use super::fakes::{
     Given, Odd, Pace, Program, Told, assert_bad_options_come_first, assert_not_utf8,
     fail_each_write, run, tell,
 };

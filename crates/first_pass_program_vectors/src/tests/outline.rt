@@ -1,6 +1,6 @@
 //! The lines that `outline` writes, and each fault of its run.
 
-use crate::fakes::{
+use super::fakes::{
     Given, Pace, Program, assert_bad_options_come_first, assert_fault, assert_lines,
     assert_not_utf8, fail_each_write,
 };

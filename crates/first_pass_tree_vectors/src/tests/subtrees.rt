@@ -3,7 +3,7 @@
 ghost use Rattle.first_pass_tree.specs.Forest.{empty_forest};
 ghost use Rattle.std.specs.Prelude.{◌≡◌};
 
-use crate::steps::{Step, item, take_each};
+use super::steps::{Step, item, take_each};
 use first_pass_items::item::{Item, ItemBody, ListFlags};
 use first_pass_tree::forest::Tree;
 use first_pass_tree::subtrees::Subtree;

@@ -1,6 +1,6 @@
 //! Runs with a clock that has given readings, and each fault.
 
-use crate::fakes::{BAD_OPTIONS, Given, Pace, Program, Told, assert_lines, fail_each_write, tell};
+use super::fakes::{BAD_OPTIONS, Given, Pace, Program, Told, assert_lines, fail_each_write, tell};
 use first_pass_host::fault::RunFault;
 use std::alloc::{AllocError, Global};
 use std::process::Abort;
@@ -20,6 +20,21 @@ fn timed(
     let mut given = Given::new(words, text);
     given.read = Pace::failing(3, fails_at);
     tell(alloc, Program::Bench(told), given, b"")
+}
+
+// Asserts that a run with the options `"0"` and this number of runs, over `TEXT` and with these readings, writes a line.
+fn assert_line(
+    rt: &(impl Abort + AllocGlobal),
+    runs: &str,
+    told: &[u128],
+    want: &str,
+) -> Result<(), Fail> {
+    assert_lines(
+        rt,
+        Program::Bench(told),
+        Given::new(&["0", runs], TEXT),
+        want,
+    )
 }
 
 // Asserts that these words are refused before the clock is read, and before anything is read or written.
@@ -76,12 +91,7 @@ fn as_many_runs_as_are_asked_for(rt: HostRuntime) -> Result<(), Fail> {
         ),
     ];
     for (runs, told, want) in cases {
-        assert_lines(
-            &rt,
-            Program::Bench(told),
-            Given::new(&["0", runs], TEXT),
-            want,
-        )?;
+        assert_line(&rt, runs, told, want)?;
     }
     Ok(())
 }
@@ -131,22 +141,25 @@ fn five_runs_and_a_second(rt: HostRuntime) -> Result<(), Fail> {
 #[test]
 fn options_make_a_difference(rt: HostRuntime) -> Result<(), Fail> {
     let text = b"+++\na\n+++\n";
-    let of_three =
-        "10 bytes, 3 nodes, best of 1 runs: 0.000 ms, 1000.0 MB/s; first run: 0.000 ms, 1000.0 MB/s\n";
-    assert_lines(
-        &rt,
-        Program::Bench(&[0, 10]),
-        Given::new(&["256", "1"], text),
-        of_three,
-    )?;
-    let of_seven =
-        "10 bytes, 7 nodes, best of 1 runs: 0.000 ms, 1000.0 MB/s; first run: 0.000 ms, 1000.0 MB/s\n";
-    assert_lines(
-        &rt,
-        Program::Bench(&[0, 10]),
-        Given::new(&["0", "1"], text),
-        of_seven,
-    )
+    let cases = [
+        (
+            "256",
+            "10 bytes, 3 nodes, best of 1 runs: 0.000 ms, 1000.0 MB/s; first run: 0.000 ms, 1000.0 MB/s\n",
+        ),
+        (
+            "0",
+            "10 bytes, 7 nodes, best of 1 runs: 0.000 ms, 1000.0 MB/s; first run: 0.000 ms, 1000.0 MB/s\n",
+        ),
+    ];
+    for (bits, want) in cases {
+        assert_lines(
+            &rt,
+            Program::Bench(&[0, 10]),
+            Given::new(&[bits, "1"], text),
+            want,
+        )?;
+    }
+    Ok(())
 }
 
 #[test]
@@ -195,12 +208,7 @@ fn each_reading_of_the_clock_fails_in_turn(rt: HostRuntime) -> Result<(), Fail> 
 fn each_write_is_odd_in_turn(rt: HostRuntime) -> Result<(), Fail> {
     let whole =
         "8 bytes, 7 nodes, best of 1 runs: 0.000 ms, 8000.0 MB/s; first run: 0.000 ms, 8000.0 MB/s\n";
-    assert_lines(
-        &rt,
-        Program::Bench(&[0, 1]),
-        Given::new(&["0", "1"], TEXT),
-        whole,
-    )?;
+    assert_line(&rt, "1", &[0, 1], whole)?;
     let given = Given::new(&["0", "1"], TEXT);
     assert_eq!(rt; fail_each_write(&rt, Program::Bench(&[0, 1]), given)?, 5);
     Ok(())

@@ -1,0 +1,7 @@
+//! The tests, by what they call.
+
+mod pieces;
+mod ranges;
+mod steps;
+mod subtrees;
+mod tree;
