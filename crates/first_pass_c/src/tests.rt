@@ -31,18 +31,7 @@ const ATTRIBUTE: FlatAttribute = FlatAttribute {
 
 const DEFINITION: FlatDefinition = FlatDefinition {
     start: 99,
-    end: 0,
-    label: 0,
-    label_length: 0,
-    destination: 0,
-    destination_length: 0,
-    title: 0,
-    title_length: 0,
-    has_title: 0,
-    label_end: 0,
-    destination_start: 0,
-    destination_end: 0,
-    title_start: 0,
+    ..FlatDefinition::ZERO
 };
 
 const COUNTS: FlatCounts = FlatCounts {

@@ -88,19 +88,11 @@ impl NamedDefinitions {
         append_record(
             &mut self.definitions,
             FlatDefinition {
-                start: 0,
-                end: 0,
                 label: label.start,
                 label_length: label.length,
                 destination: following,
-                destination_length: 0,
                 title: following,
-                title_length: 0,
-                has_title: 0,
-                label_end: 0,
-                destination_start: 0,
-                destination_end: 0,
-                title_start: 0,
+                ..FlatDefinition::ZERO
             },
         )?;
         Ok(())

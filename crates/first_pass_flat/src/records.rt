@@ -71,3 +71,22 @@ pub struct FlatDefinition {
     /// The offset of the title's first quotation mark or parenthesis. Without a title, the end of the definition.
     pub title_start: usize,
 }
+
+impl FlatDefinition {
+    /// A record in which each field is 0.
+    pub const ZERO: FlatDefinition = FlatDefinition {
+        start: 0,
+        end: 0,
+        label: 0,
+        label_length: 0,
+        destination: 0,
+        destination_length: 0,
+        title: 0,
+        title_length: 0,
+        has_title: 0,
+        label_end: 0,
+        destination_start: 0,
+        destination_end: 0,
+        title_start: 0,
+    };
+}
