@@ -10,8 +10,7 @@ ghost use Rattle.std.specs.Prelude.{◌≡◌, ◌++◌, OnOk, codes};
 use crate::node::append_range;
 use crate::values::{append_string, append_string_after};
 use first_pass_items::cow_str::CowStr;
-use first_pass_labels::label_key::LabelKey;
-use first_pass_labels::label_table::LinkDef;
+use first_pass_names::items::{LabelKey, LinkDef};
 use std::alloc::AllocError;
 use std::ops::DerefStr;
 

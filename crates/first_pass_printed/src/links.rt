@@ -8,8 +8,7 @@ ghost use Rattle.std.specs.Prelude.{◌≡◌, ◌++◌, OnOk, codes};
 
 use crate::node::{append_range, append_visible};
 use first_pass_items::cow_str::CowStr;
-use first_pass_labels::label_key::LabelKey;
-use first_pass_labels::label_table::LinkDef;
+use first_pass_names::items::{LabelKey, LinkDef};
 use std::alloc::AllocError;
 use std::ops::DerefStr;
 
