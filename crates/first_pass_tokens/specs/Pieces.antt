@@ -164,8 +164,8 @@ abbrev pub is_plain_escape_at : List ℕ → ℕ → Bool
 is_plain_escape_at text at =
     slice_index text at == backslash && (is_ascii_punctuation (slice_index text (at + 1)) && not (slice_index text (at + 1) == backquote))
 
--- A run of delimiters or backquotes, a bracket, a plain mark or, outside a row, a plain escape is at an offset. This
--- decides the piece there (this project).
+-- A run of delimiters or backquotes, a bracket, a plain mark or, outside a row, a plain escape is at an offset. The
+-- piece there needs neither a text nor the brace contexts (this project).
 abbrev pub is_quick_at : Bool → List ℕ → ℕ → Bool
 is_quick_at row text at =
     is_delimiter (slice_index text at) || (slice_index text at == backquote
