@@ -1,5 +1,5 @@
 /*
- * Texts that are nested 100,000 deep, in a thread with a stack of 256 KiB.
+ * Texts that are nested 100,000 deep, and the ranges in one 10,000 deep, in a thread with a stack of 256 KiB.
  */
 #define _GNU_SOURCE
 #include "check.h"
@@ -69,6 +69,29 @@ static void try_text(const struct nested *nested, size_t times) {
     free(text);
 }
 
+/* Each of 10,000 nested quotes has its own depth, and its range: from its mark to the end of the text. */
+static void test_ranges(void) {
+    enum { QUOTES = 10000 };
+    static char text[QUOTES + 1];
+    struct first_pass_tree *tree;
+    memset(text, '>', QUOTES);
+    text[QUOTES] = 'a';
+    if (!CHECK(first_pass_parse(text, sizeof text, 0, NULL, &tree) == FIRST_PASS_OK)) {
+        return;
+    }
+    if (CHECK(tree->node_count == QUOTES + 3)) {
+        for (uint32_t i = 0; i < QUOTES; i++) {
+            const struct first_pass_node *quote = &tree->nodes[i + 1];
+            CHECK(quote->kind == FIRST_PASS_NODE_BLOCK_QUOTE && quote->depth == i + 1);
+            CHECK(quote->start == i && quote->end == QUOTES + 1);
+        }
+        const struct first_pass_node *paragraph = &tree->nodes[QUOTES + 1];
+        CHECK(paragraph->kind == FIRST_PASS_NODE_PARAGRAPH && paragraph->depth == QUOTES + 1);
+        CHECK(paragraph->start == QUOTES && paragraph->end == QUOTES + 1);
+    }
+    first_pass_tree_free(tree);
+}
+
 static void *run(void *data) {
     (void)data;
     for (size_t i = 0; i < sizeof texts / sizeof *texts; i++) {
@@ -78,6 +101,7 @@ static void *run(void *data) {
     for (size_t times = 55; times < 75; times++) {
         try_text(&(struct nested){">", "a\n", times}, times);
     }
+    test_ranges();
     return NULL;
 }
 

@@ -3,4 +3,6 @@
 
 #[cfg(test)]
 mod calls;
+#[cfg(test)]
+mod deep;
 pub mod surface;
