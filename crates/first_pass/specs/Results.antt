@@ -11,7 +11,7 @@ use Rattle.first_pass_items.specs.OptionWords.{has, definition_list}
 use Rattle.first_pass_lines.specs.Lines.{is_line_end}
 use Rattle.first_pass_lines.specs.Places.{line_rest}
 use Rattle.first_pass_lines.specs.Rest.{Rest}
-use Rattle.first_pass_attributes.specs.Attributes.{attributes_in}
+use Rattle.first_pass_attributes.specs.Attributes.{attributes_in, HasSeveral}
 use Rattle.first_pass_attributes.specs.declared.heading_attributes.HeadingAttributes.{HeadingAttributes}
 use Rattle.first_pass_entities.specs.Texts.{Borrows}
 use Rattle.first_pass_labels.specs.declared.label_table.LinkDef.{LinkDef}
@@ -28,11 +28,14 @@ use Rattle.first_pass.specs.declared.state.FirstPass.{FirstPass}
 use Rattle.first_pass.specs.Interrupts.{colon_interrupts}
 use Rattle.first_pass.specs.Views.{context_in, is_nested, source_options, source_text, tree_of}
 
--- The text of a heading extends from one offset to another. The result is the end of its content with its attributes
--- (this project).
-pub record FindsAttributes (pass : FirstPass) (start «end» : ℕ) (answer : ℕ × Option HeadingAttributes) : Type 0 where
-  pub content : answer.0 ≡ start + length (before_attributes (source_options pass) (slice_range (source_text pass) start «end»))
-  pub attributes : option_map attributes_in answer.1 ≡ heading_attributes_of (source_options pass) (slice_range (source_text pass) start «end»)
+-- The text of a heading extends from one offset to another. The result is the end of its content with its attributes; an
+-- allocation can only fail if these have several classes or keys (this project).
+pub record FindsAttributes (pass : FirstPass) (start «end» : ℕ) (result : Result (ℕ × Option HeadingAttributes) AllocError) : Type 0 where
+  pub content : IfOk result (λ answer. answer.0
+      ≡ start + length (before_attributes (source_options pass) (slice_range (source_text pass) start «end»)))
+  pub attributes : IfOk result (λ answer. option_map attributes_in answer.1
+      ≡ heading_attributes_of (source_options pass) (slice_range (source_text pass) start «end»))
+  pub err : OnErr result (IsSomeAnd (heading_attributes_of (source_options pass) (slice_range (source_text pass) start «end»)) HasSeveral)
 
 -- The result is the link reference definition that begins at an offset, or none; the pass is unchanged (CommonMark 4.7,
 -- and this project).

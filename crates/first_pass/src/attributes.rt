@@ -19,7 +19,7 @@ impl<'a> FirstPass<'a> {
     /// `header_start` to `header_end`. With an attribute block, the content ends directly before the block, and
     /// includes white space before it. Without one, or if the options have no heading attributes, returns the text's
     /// end and `None`. If `header_end` is before `header_start`, the text is empty. The pass is unchanged. Fails only
-    /// if an allocation fails (this project).
+    /// if there are several classes or keys and an allocation fails (this project).
     pub fn extract_and_parse_heading_attribute_block(
         &self,
         header_start: usize,
@@ -27,7 +27,7 @@ impl<'a> FirstPass<'a> {
     ) -> Result<(usize, Option<HeadingAttributes<'a>>), AllocError>
         requires from { header_start ≤ length (source_text self.now) }
         requires to { header_end ≤ length (source_text self.now) }
-        ensures { IfOk result (λ answer. FindsAttributes self.now header_start header_end answer) }
+        ensures { FindsAttributes self.now header_start header_end result }
     {
         let answer = attributes::extract_and_parse_heading_attribute_block(
             &self.pass.source,
