@@ -9,11 +9,26 @@ use Rattle.first_pass_grammar.proofs.Common.{MaybeDefinitionListTitle, Text, Tre
 use Rattle.first_pass_grammar.proofs.Common.{item_at, open_place, with_body_at, Document, laid_open, AreAt, open_within, FitsOpen, IsOrderedTo, Ranged}
 use Rattle.first_pass_grammar.proofs.Common.{extent_of, extents, is_text_block, Siblings, Empty, laid, Within, Elsewhere, InText, below, beyond, IsLead, Fits}
 use Rattle.first_pass_grammar.proofs.Common.{body_of, slice_get_within, some_mapped}
-use Rattle.first_pass_blocks.proofs.Common.{Node, ended_at, length-places, get_front, BecomesHeading, CutsChildren, ordered_same}
+use Rattle.first_pass_grammar.proofs.Common.{body-changed, body-other, depths, modify, length-modify}
+use Rattle.first_pass_blocks.proofs.Common.{Node, ended_at, length-places, get_front, is_list, top_body, PassState, BecomesHeading, CutsChildren}
+use Rattle.first_pass_blocks.proofs.Common.{ordered_none}
+use Rattle.first_pass_blocks.proofs.Common.{ordered_same}
+use Rattle.first_pass_tree.specs.Forest.{IsForest, IsOpenPath, popped}
+use Rattle.first_pass_open.proofs.PathLemmas.{AreIn}
+use Rattle.first_pass_lists.specs.Closing.{is_item}
+use Rattle.first_pass_order.specs.Ordered.{top_of, AreNested}
+use Rattle.first_pass_order.proofs.AlikeNodes.{class_of}
+use Rattle.first_pass_order.proofs.DefinitionBegun.{current_past}
+use Rattle.first_pass_order.proofs.Nests.{nested_before, top_before}
+use Rattle.first_pass_containers.proofs.OrderSteps.{ordered_tree}
 use Rattle.first_pass_items.specs.declared.item.ItemBody.TheVariants.{TightParagraph}
 use Rattle.first_pass_grammar.proofs.Order.Orders.{extents-append, fits-one, fits-order, laid-one}
 use Rattle.first_pass_order.proofs.OrderLemmas.{extents-body, flags_of, top_there}
-use Rattle.first_pass.specs.Holds.{StandsAfterBackslash, AreTokens, HoldsTokens}
+use Rattle.first_pass.specs.Closable.{IsClosable}
+use Rattle.first_pass.specs.Views.{with_tree}
+use Rattle.first_pass.specs.Holds.{StandsAfterBackslash, AreTokens, HoldsChain, HoldsTokens}
+use Rattle.first_pass.proofs.Chains.{chain_holds}
+use Rattle.first_pass.proofs.Closable.{IsOutside, closable_by, no_empty_item, outside_of}
 use Rattle.first_pass_order.proofs.RowSplits.{extents-split}
 
 -- what is made of the first of the nodes that are cut
@@ -260,30 +275,58 @@ text_flags level index MaybeDefinitionListTitle h = refl
 text_flags level index body h = absurd (false≢true h)
 
 -- the nodes up to the block are the same
-block_kept : (f : Forest Item) (e : ℕ) (block : TreeIndex) (x : Item) → slice_get f.spine 0 ≡ Some block → item_at f block ≡ Some x
-    → body_at (cut_siblings f e).nodes block.0 ≡ Some x.body
-block_kept f e block x spine there =
+cut_front : (f : Forest Item) (e : ℕ) (block : TreeIndex) → slice_get f.spine 0 ≡ Some block → block.0 < length f.nodes → (i : ℕ) → i ≤ block.0
+    → (block.0 < length (cut_siblings f e).nodes) × (slice_get (cut_siblings f e).nodes i ≡ slice_get f.nodes i)
+cut_front f e block spine within i low =
     let place : open_place f.spine ≡ block.0 = ap open_place (open_as f.spine block spine).1 in
-    let within : block.0 < length f.nodes = slice_get_within f.nodes block.0 _
-    (some_mapped (λ (n : ℕ × Item). n.1) (slice_get f.nodes block.0) x there).1 in
     let k : ℕ = open_place f.spine + 1 in
     let long : length (take k f.nodes) ≡ min k (length f.nodes) = length-take k f.nodes in
     let cut : List (ℕ × Item) = cut_tokens e (length f.spine + 1) (drop k f.nodes) in
-    let inside : block.0 < length (take k f.nodes) = omega arith in
-    let same : slice_get (take k f.nodes ++ cut) block.0 ≡ slice_get f.nodes block.0 =
-    get_front (take k f.nodes) cut block.0 inside ∙ sym (get_front (take k f.nodes) (drop k f.nodes) block.0 inside)
-    ∙ ap (λ (ns : List (ℕ × Item)). slice_get ns block.0) (take-append-drop k f.nodes) in
-    body_of (cut_siblings f e) block x (ap (option_map (λ (m : ℕ × Item). m.1)) same ∙ there)
+    let all = length-append (take k f.nodes) cut in
+    let inside : i < length (take k f.nodes) = omega arith in
+    let size : block.0 < length (take k f.nodes ++ cut) = omega arith in (
+      size,
+      get_front (take k f.nodes) cut i inside ∙ sym (get_front (take k f.nodes) (drop k f.nodes) i inside)
+          ∙ ap (λ (ns : List (ℕ × Item)). slice_get ns i) (take-append-drop k f.nodes),
+    )
+
+-- An open block whose children are cut, or not: the nodes up to it are the same.
+record KeepsFront (f g : Forest Item) (block : TreeIndex) : Type 0 where
+  spine : g.spine ≡ f.spine
+  size : block.0 < length g.nodes
+  same : (i : ℕ) → i ≤ block.0 → slice_get g.nodes i ≡ slice_get f.nodes i
+
+children_front : (text : List ℕ) (f cut : Forest Item) (block : TreeIndex) (start : ℕ) → slice_get f.spine 0 ≡ Some block → block.0 < length f.nodes
+    → CutsChildren text start f cut → KeepsFront f cut block
+children_front text f cut block start spine within (inl same) =
+    subst (λ (g : Forest Item). KeepsFront f g block) (sym same) (record { spine = refl; size = within; same = λ i low. refl })
+children_front text f cut block start spine within (inr (e, low, b, is)) =
+    subst (λ (g : Forest Item). KeepsFront f g block) (sym is) (record {
+      spine = refl;
+      size = (cut_front f e block spine within block.0 (omega arith)).0;
+      same = λ i low. (cut_front f e block spine within i low).1;
+    })
+
+node_within : (f : Forest Item) (block : TreeIndex) (x : Item) → item_at f block ≡ Some x → block.0 < length f.nodes
+node_within f block x there =
+    slice_get_within f.nodes block.0 _ (some_mapped (λ (n : ℕ × Item). n.1) (slice_get f.nodes block.0) x there).1
+
+-- the body of the block stays
+block_kept : (f g : Forest Item) (block : TreeIndex) (x : Item) → KeepsFront f g block → item_at f block ≡ Some x → body_at g.nodes block.0 ≡ Some x.body
+block_kept f g block x k there = body_of g block x (ap (option_map (λ (m : ℕ × Item). m.1)) (k.same block.0 (omega arith)) ∙ there)
 
 -- the children are cut, or not: the body of the block stays, and the order
 children_cut : (text : List ℕ) (f cut : Forest Item) (block : TreeIndex) (at : ℕ) → slice_get f.spine 0 ≡ Some block → (h : HoldsTokens text f block)
     → CutsChildren text h.node.start f cut → IsOrderedTo text f at → (body_at cut.nodes block.0 ≡ Some h.node.body) × IsOrderedTo text cut at
-children_cut text f cut block at spine h (inl same) o =
-    subst (λ (g : Forest Item). (body_at g.nodes block.0 ≡ Some h.node.body) × IsOrderedTo text g at) (sym same) (body_of f block h.node h.there, o)
-children_cut text f cut block at spine h (inr (e, low, b, is)) o =
-    let (rest, spine_is) = open_as f.spine block spine in
-    subst (λ (g : Forest Item). (body_at g.nodes block.0 ≡ Some h.node.body) × IsOrderedTo text g at) (sym is)
-    (block_kept f e block h.node spine h.there, cut_ordered text f at e block rest h.node spine_is h.there h.tokens low b o)
+children_cut text f cut block at spine h children o = (
+  block_kept f cut block h.node (children_front text f cut block h.node.start spine (node_within f block h.node h.there) children) h.there,
+  elim children [
+    | inl same ↦ subst (λ (g : Forest Item). IsOrderedTo text g at) (sym same) o
+    | inr (e, low, b, is) ↦
+        let (rest, spine_is) = open_as f.spine block spine in
+        subst (λ (g : Forest Item). IsOrderedTo text g at) (sym is) (cut_ordered text f at e block rest h.node spine_is h.there h.tokens low b o)
+  ],
+)
 
 -- A block that contains tokens becomes a heading.
 pub heading_ordered : {d : Document} {level : HeadingLevel} {broken : Bool} {block : TreeIndex} {old new : Forest Item} {at : ℕ}
@@ -294,3 +337,69 @@ heading_ordered {d = d} {level = level} {block = block} {old = old} {at = at} sp
     let (body, cut) = children_cut d.text old heads.cut block at spine h children o in
     rw heads.tree_is (ordered_same d.text heads.cut (with_body_at heads.cut block (Heading level heads.index)) at
     (extents-body heads.cut.nodes block.0 h.node.body (Heading level heads.index) body (text_flags level heads.index h.node.body h.has_text)) refl cut)
+
+-- The nesting stays: a block with text is no item, so it is not directly in a list.
+text_no_item : (body : ItemBody) → is_text_block body ≡ true → is_item (Some body) ≡ false
+text_no_item Paragraph h = refl
+text_no_item TightParagraph h = refl
+text_no_item (Heading level ix) h = refl
+text_no_item DefinitionListTitle h = refl
+text_no_item MaybeDefinitionListTitle h = refl
+text_no_item body h = absurd (false≢true h)
+
+-- The innermost open node is a block with text. The open nodes around it are before it.
+record IsOpenText (f : Forest Item) (block : TreeIndex) : Type 0 where
+  rest : List TreeIndex
+  node : Item
+  spine : f.spine ≡ block ∷ rest
+  inside : AreIn block.0 rest
+  there : item_at f block ≡ Some node
+  has_text : is_text_block node.body ≡ true
+
+heading_outside : (f g : Forest Item) (block : TreeIndex) (level : HeadingLevel) (index : Option HeadingIndex) → IsOpenText f block → KeepsFront f g block
+    → IsOutside f → IsOutside (with_body_at g block (Heading level index))
+heading_outside f g block level index t k h =
+    let rest : List TreeIndex = t.rest in
+    let x : Item = t.node in
+    let new : List (ℕ × Item) = modify g.nodes block.0 (λ (y : Item). record y { body = Heading level index }) in
+    let heading : body_at new block.0 ≡ Some (Heading level index) =
+    body-changed g.nodes block.0 _ x.body (Heading level index) (block_kept f g block x k t.there) (λ y e. refl) in
+    let same : (i : ℕ) → i < block.0 → class_of (body_at new i) ≡ class_of (body_at f.nodes i) =
+    λ i low. ap class_of
+    (body-other g.nodes block.0 i _ low ∙ ap (option_map (λ (n : ℕ × Item). n.1.body)) (k.same i (omega arith))) in
+    let size : length new ≡ length g.nodes = length-modify g.nodes block.0 _ in
+    let within = k.size in
+    let old : AreNested f.nodes (block ∷ rest) = subst (AreNested f.nodes) t.spine h.0 in
+    let other : is_item (body_at f.nodes block.0) ≡ false = ap is_item (body_of f block x t.there) ∙ text_no_item x.body t.has_text in
+    let around : is_list (top_of new rest) ≡ is_list (top_of f.nodes rest) = ap (λ t. t.0) (top_before f.nodes new block.0 rest same t.inside) in
+    let nested : AreNested new (block ∷ rest) = (
+      omega arith,
+      λ list. absurd (false≢true (sym other ∙ old.1 (sym around ∙ list))),
+      nested_before f.nodes new block.0 rest same (omega arith) t.inside old.2,
+    ) in
+    let now : g.spine ≡ block ∷ rest = k.spine ∙ t.spine in
+    (subst (AreNested new) (sym now) nested, ap (λ (s : List TreeIndex). is_list (top_of new s)) now ∙ ap is_list heading)
+
+-- A block that contains a chain becomes a heading: the open nodes can still be closed.
+pub heading_closable : {d : Document} {level : HeadingLevel} {broken : Bool} {block : TreeIndex} (r : PassState) (new : Forest Item) (at to : ℕ)
+    → IsForest r.tree → BecomesHeading d level broken block r.tree new → HoldsChain d.text r.tree block to → IsClosable d.text r at
+    → IsClosable d.text (with_tree r new) at
+heading_closable {d = d} {level = level} {block = block} r new at to forest heads h c =
+    let tokens = chain_holds d.text r.tree block to h in
+    let x : Item = tokens.node in
+    let (rest, spine) = open_as r.tree.spine block h.innermost in
+    let path : IsOpenPath (depths r.tree.nodes) (block ∷ rest) = subst (IsOpenPath (depths r.tree.nodes)) spine forest.opened in
+    let inside : AreIn block.0 rest =
+    current_past (popped r.tree block rest) block (record { preorder = forest.preorder; opened = path.1; at_current = path.0 }) refl in
+    let text : IsOpenText r.tree block =
+    record { rest = rest; node = x; spine = spine; inside = inside; there = tokens.there; has_text = tokens.has_text } in
+    let children = subst (λ (z : Option Item). IsSomeAnd z (λ x. CutsChildren d.text x.start r.tree heads.cut)) tokens.there heads.children in
+    let front = children_front d.text r.tree heads.cut block x.start h.innermost (node_within r.tree block x tokens.there) children in
+    let top : is_item (top_body r.tree) ≡ false =
+    ap (λ (s : List TreeIndex). is_item (top_of r.tree.nodes s)) spine ∙ ap is_item (body_of r.tree block x tokens.there)
+    ∙ text_no_item x.body tokens.has_text in
+    let none = no_empty_item d.text r at c.read.0 top in
+    let ordered : IsOrderedTo d.text r.tree at = ordered_tree d.text r at none c.read.0 in
+    closable_by d.text (with_tree r new) (with_body_at heads.cut block (Heading level heads.index)) at heads.tree_is
+    (heading_outside r.tree heads.cut block level heads.index text front (outside_of c))
+    (ordered_none d.text (with_tree r new) at none ordered.within (heading_ordered h.innermost heads tokens ordered))

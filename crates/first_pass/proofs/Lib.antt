@@ -1,5 +1,8 @@
 pub mod Added
+pub mod BetweenCalls
 pub mod CallsNamed
+pub mod Chains
+pub mod Closable
 pub mod CutOrder
 pub mod OrderJoin
 pub mod RowsOrdered

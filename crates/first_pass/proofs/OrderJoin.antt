@@ -1,8 +1,10 @@
 -- A text joined to the last child of the innermost open node keeps the tree in order.
 use Rattle.std.proofs.Common.{◌≡◌, ℕ, suc, ◌+◌, ◌≤◌, ◌==◌, ◌&&◌, Bool, true, false, List, [], ◌∷◌, ◌++◌, length, Option, Some, None, IfSome, IsUtf8}
-use Rattle.std.proofs.Common.{IsCharBoundary, refl, sym, ap, subst, ◌∙◌, arith, if◌then◌else◌, eqb-true}
+use Rattle.std.proofs.Common.{IsCharBoundary, refl, sym, ap, subst, ◌∙◌, ◌-◌, arith, if◌then◌else◌, eqb-true, take, length-take-le}
+use Rattle.std.proofs.lemmas.List.{get_or-take}
 use Rattle.first_pass_grammar.proofs.Common.{and_parts, CowStr, MathBraces, Item, ItemBody, Text, TreeIndex, Forest, IsForest, IsLastAt, depths, item_at}
-use Rattle.first_pass_grammar.proofs.Common.{is_text, with_end_at, with_end, appended, modified-is, AreInOrder, with_tokens, AppendsLine, order_bound}
+use Rattle.first_pass_grammar.proofs.Common.{is_text, with_end_at, with_end, appended, modified-is, AreInOrder, EscapesStand, with_tokens, AppendsLine}
+use Rattle.first_pass_grammar.proofs.Common.{order_bound}
 use Rattle.first_pass_grammar.proofs.Common.{order_to, order_from, line_in_order, cell_end_place, Document, text_upto, Ranged, extent_of, is_task_marker}
 use Rattle.first_pass_grammar.proofs.Common.{Empty, laid, IsBetween, laid_open, FitsOpen, IsOrderedTo}
 use Rattle.first_pass_blocks.proofs.Common.{joins_at, with_token, AppendsCell, Node, ended_at, length-places, PassState, reached, IsOrderedAt, ordered_later}
@@ -96,18 +98,36 @@ pub record IsRange (text : List ℕ) (start : ℕ) (end : Option ℕ) : Type 0 w
   pub cut : IfSome end (λ e. (start ≤ e) × IsCharBoundary text e)
 
 -- the same of the text up to the cut, whose tokens are in order in the whole text, and whose boundaries are boundaries there
-record IsFront (text front : List ℕ) (start : ℕ) : Type 0 where
-  utf8 : IsUtf8 front
-  boundary : IsCharBoundary front start
-  tokens : (to : ℕ) (chain : List Item) → AreInOrder front start to chain → AreInOrder text start to chain
-  place : (i : ℕ) → IsCharBoundary front i → IsCharBoundary text i
+pub record IsFront (text front : List ℕ) (start : ℕ) : Type 0 where
+  pub utf8 : IsUtf8 front
+  pub boundary : IsCharBoundary front start
+  pub tokens : (to : ℕ) (chain : List Item) → AreInOrder front start to chain → AreInOrder text start to chain
+  pub escapes : (to : ℕ) (chain : List Item) → AreInOrder front start to chain → EscapesStand front start chain → EscapesStand text start chain
+  pub place : (i : ℕ) → IsCharBoundary front i → IsCharBoundary text i
 
-front_of : (text : List ℕ) (start : ℕ) (end : Option ℕ) → IsRange text start end → IsFront text (text_upto text end) start
-front_of text start None r = record { utf8 = r.utf8; boundary = r.boundary; tokens = λ to chain h. h; place = λ i b. b }
+-- a backslash before a cut
+escapes_in_text : (text : List ℕ) (e from to : ℕ) (chain : List Item) → e ≤ length text → AreInOrder (take e text) from to chain
+    → EscapesStand (take e text) from chain → EscapesStand text from chain
+escapes_in_text text e from to [] high h k = tt
+escapes_in_text text e from to (x ∷ xs) high h k =
+    let size = length-take-le e text high in
+    let within = h.3.0 in
+    let order = h.1 in (
+      λ escaped.
+          let stands = k.0 escaped in
+          let later = stands.0 in
+          (later, sym (get_or-take e text (x.start - 1) 0 (omega arith)) ∙ stands.1),
+      escapes_in_text text e x.«end» to xs high h.4 k.1,
+    )
+
+pub front_of : (text : List ℕ) (start : ℕ) (end : Option ℕ) → IsRange text start end → IsFront text (text_upto text end) start
+front_of text start None r =
+    record { utf8 = r.utf8; boundary = r.boundary; tokens = λ to chain h. h; escapes = λ to chain h k. k; place = λ i b. b }
 front_of text start (Some e) r = record {
   utf8 = front_utf8 text e r.utf8 r.cut.1;
   boundary = place_in_front text e r.utf8 r.cut.1 start r.cut.0 r.boundary;
   tokens = order_in_text text e r.utf8 r.cut.1 start;
+  escapes = λ to chain. escapes_in_text text e start to chain r.cut.1.0;
   place = place_in_text text e r.utf8 r.cut.1;
 }
 
@@ -124,8 +144,8 @@ state_before text r at start forest o low =
     record { from = reached r.begin_list_item at; low = (let before = o.later in omega arith); forest = forest; order = o.ordered }
 
 -- tokens in order are added after an offset
-tokens_after : (text : List ℕ) (old new : Forest Item) (start to : ℕ) (tokens : List Item) → IsOrderedBefore text old start → AreInOrder text start to tokens
-    → to ≤ length text → new ≡ with_tokens old tokens → IsOrderedTo text new to
+pub tokens_after : (text : List ℕ) (old new : Forest Item) (start to : ℕ) (tokens : List Item) → IsOrderedBefore text old start
+    → AreInOrder text start to tokens → to ≤ length text → new ≡ with_tokens old tokens → IsOrderedTo text new to
 tokens_after text old new start to tokens o h high is =
     rw is (ordered_tokens text old o.from to tokens o.forest (order_from text o.from start to tokens h o.low) high o.order)
 

@@ -1,13 +1,21 @@
 -- The rows of a table keep the tree in order as they are added, with at most four nodes for each byte.
-use Rattle.std.proofs.Common.{◌≡◌, ℕ, ◌+◌, ◌<◌, ◌≤◌, List, ◌∷◌, ◌++◌, length, Option, Some, None, IfSome, IsCharBoundary, refl, ap, ◌∙◌, arith}
-use Rattle.first_pass_grammar.proofs.Common.{Item, TreeIndex, Forest, added, at_depth, counted_nodes, IsOrderedTo, GrowsBy}
+use Rattle.std.proofs.Common.{◌≡◌, ℕ, ◌+◌, ◌<◌, ◌≤◌, List, ◌∷◌, ◌++◌, length, Option, Some, None, IfSome, IsCharBoundary, refl, sym, ap, subst, ◌∙◌, arith}
+use Rattle.first_pass_grammar.proofs.Common.{none-some, Item, TreeIndex, Forest, added, at_depth, body_at, counted_nodes, IsOrderedTo, GrowsBy}
 use Rattle.first_pass_blocks.proofs.Common.{own_added, IsJustPushed, closed_by, AddsBetween, with_below, names_of, block_count, ordered_same, ordered_later}
+use Rattle.first_pass_blocks.proofs.Common.{ordered_none, PassState}
+use Rattle.first_pass_items.specs.declared.item.ItemBody.TheVariants.{Table}
+use Rattle.first_pass_lists.specs.Closing.{is_item, top_body}
+use Rattle.first_pass_order.specs.Ordered.{top_of, AreNested}
+use Rattle.first_pass_order.proofs.Nests.{added_outside, top_front}
+use Rattle.first_pass_containers.proofs.OrderSteps.{ordered_tree}
 use Rattle.first_pass_grammar.proofs.Count.CountedNodes.{own_ended}
-use Rattle.first_pass_tables.specs.Appends.{ClosesBetween}
+use Rattle.first_pass_tables.specs.Appends.{ClosesBetween, IsOpenNode}
 use Rattle.first_pass_names.specs.TableEntries.{AddsTexts}
 use Rattle.first_pass.specs.declared.state.FirstPass.{FirstPass}
 use Rattle.first_pass.specs.Calls.{ReadsRowFrom}
-use Rattle.first_pass.specs.Holds.{after_row}
+use Rattle.first_pass.specs.Closable.{IsClosable}
+use Rattle.first_pass.specs.Holds.{after_row, IsTableOpen}
+use Rattle.first_pass.proofs.Closable.{IsOutside, closable_by, no_empty_item, outside_of, table_closed}
 use Rattle.first_pass.specs.Kept.{KeepsEntries}
 use Rattle.first_pass.specs.Views.{allocs_of, source_text, state_of, tree_of, with_tree}
 use Rattle.first_pass_order.proofs.OrderLemmas.{ordered_added, ordered_closed}
@@ -28,18 +36,45 @@ row_count text old new from ix None same adds apart =
     omega arith
 row_count text old new from ix (Some (stop, place)) same adds apart = block_count text from stop old new adds apart
 
+row_added : (text : List ℕ) (old new : Forest Item) (ix : ℕ) (row : Option (ℕ × TreeIndex)) → (row ≡ None → new ≡ old)
+    → IfSome row (λ r. AddsBetween text ix r.0 old new) → IsOutside old → IsOutside new × (top_body new ≡ top_body old)
+row_added text old new ix None same adds h = subst (λ (f : Forest Item). IsOutside f × (top_body f ≡ top_body old)) (sym (same refl)) (h, refl)
+row_added text old new ix (Some row) same adds h =
+    subst (λ (f : Forest Item). IsOutside f × (top_body f ≡ top_body old)) (sym adds.tree_is)
+    (added_outside old adds.items h.0 h.1, top_front old.nodes _ old.spine h.0)
+
+row_open : (text : List ℕ) (old new : Forest Item) (ix : ℕ) (row : Option (ℕ × TreeIndex)) → (row ≡ None → new ≡ old)
+    → IfSome row (λ r. AddsBetween text ix r.0 old new) → IsOpenNode old → IsOpenNode new
+row_open text old new ix None same adds node = subst IsOpenNode (sym (same refl)) node
+row_open text old new ix (Some row) same adds node =
+    subst IsOpenNode (sym adds.tree_is)
+    (record { place = node.place; around = node.around; innermost = node.innermost; childless = λ none. absurd (none-some _ (sym none)) })
+
 -- a row is read if it keeps the entries and the state, and is between two offsets
 pub row_read : (old new : FirstPass) (ix : ℕ) (row : Option (ℕ × TreeIndex)) → KeepsEntries old new
     → AddsTexts (names_of (allocs_of new)) (names_of (allocs_of old)) → state_of new ≡ with_tree (state_of old) (tree_of new)
     → ix ≤ length (source_text old) → (row ≡ None → tree_of new ≡ tree_of old) → IfSome row (λ r. r.0 ≤ length (source_text old))
     → (IsCharBoundary (source_text old) ix → (from : ℕ) → from ≤ ix → IfSome row (λ r. AddsBetween (source_text old) from r.0 (tree_of old) (tree_of new)))
     → ReadsRowFrom old new ix (after_row row ix)
-row_read old new ix row kept texts state within none ends fits = record {
+row_read old new ix row kept texts state within same ends fits = record {
   kept = kept;
   texts = texts;
   state = state;
-  order = λ begins at low o. row_ordered (source_text old) (tree_of old) (tree_of new) at ix row low within none ends (fits begins at low) o;
-  node_bound = λ begins from low apart. row_count (source_text old) (tree_of old) (tree_of new) from ix row none (fits begins from low) apart;
+  order = λ begins at low o. row_ordered (source_text old) (tree_of old) (tree_of new) at ix row low within same ends (fits begins at low) o;
+  closable = λ table begins at low h.
+      let none = no_empty_item (source_text old) (state_of old) at h.read.0 (ap is_item table.1) in
+      let o = row_ordered (source_text old) (tree_of old) (tree_of new) at ix row low within same ends (fits begins at low)
+      (ordered_tree (source_text old) (state_of old) at none h.read.0) in
+      let here : ix ≤ ix = omega arith in
+      let added = row_added (source_text old) (tree_of old) (tree_of new) ix row same (fits begins ix here) (outside_of h) in (
+        closable_by (source_text old) (state_of new) (tree_of new) (after_row row ix) refl added.0
+            (ordered_none (source_text old) (state_of new) (after_row row ix) (ap (λ (r : PassState). r.begin_list_item) state ∙ none) o.within o),
+        (table.0, added.1 ∙ table.1),
+      );
+  open_node = λ begins node.
+      let here : ix ≤ ix = omega arith in
+      row_open (source_text old) (tree_of old) (tree_of new) ix row same (fits begins ix here) node;
+  node_bound = λ begins from low apart. row_count (source_text old) (tree_of old) (tree_of new) from ix row same (fits begins from low) apart;
 }
 
 -- the tree with nodes added to the innermost open node, which is then closed
@@ -64,3 +99,17 @@ rows_count {text = text} {old = old} {new = new} {from = from} {next = next} {ix
     let same = own_ended (old.nodes ++ at_depth (length old.spine + 1) c.items) ix.0 next in
     let more = own_added old.nodes c.items (length old.spine + 1) in
     omega arith
+
+-- the open nodes can still be closed
+pub rows_closable : {text : List ℕ} {old new : PassState} {at next : ℕ} {ix : TreeIndex} → IsJustPushed old.tree ix → IsCharBoundary text next
+    → ClosesBetween text at next old.tree new.tree → new.begin_list_item ≡ old.begin_list_item → IsTableOpen old.tree → IsClosable text old at
+    → IsClosable text new next
+rows_closable {text = text} {old = old} {new = new} {at = at} {next = next} {ix = ix} pushed ends c same table h =
+    let f : Forest Item = old.tree in
+    let is = pushed.innermost in
+    let none = no_empty_item text old at h.read.0 (ap is_item table.1) in
+    let body : body_at f.nodes ix.0 ≡ Some (Table table.0) = ap (λ (s : List TreeIndex). top_of f.nodes s) (sym is) ∙ table.1 in
+    let nested : AreNested f.nodes (ix ∷ pushed.rest) = subst (AreNested f.nodes) is h.read.1.nested in
+    closable_by text new (closed_by (with_below f c.items) next (ix ∷ pushed.rest)) next (closed_is text f new.tree at next ix pushed c)
+    (table_closed f.nodes (at_depth (length f.spine + 1) c.items) ix pushed.rest next table.0 body nested)
+    (ordered_none text new next (same ∙ none) ends.0 (rows_ordered pushed ends c (ordered_tree text old at none h.read.0)))

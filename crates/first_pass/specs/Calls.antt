@@ -1,15 +1,17 @@
 -- What the calls of a pass do: one record for each kind of call.
-use Rattle.std.specs.Prelude.{◌≡◌, ℕ, ◌+◌, ◌-◌, ◌≤◌, ◌<◌, Bool, List, length, Option, None, IfSome, IsCharBoundary, Result, IfOk}
+use Rattle.std.specs.Prelude.{◌≡◌, ℕ, ◌+◌, ◌-◌, ◌≤◌, ◌<◌, Bool, true, false, List, length, Option, None, IfSome, IsCharBoundary, Result, IfOk}
 use Rattle.std.specs.declared.alloc.AllocError.{AllocError}
 use Rattle.first_pass_items.specs.declared.item.HeadingLevel.{HeadingLevel}
 use Rattle.first_pass_items.specs.declared.item.Item.{Item}
 use Rattle.first_pass_items.specs.declared.option_set.Options.{Options}
-use Rattle.first_pass_tree.specs.Forest.{added}
+use Rattle.first_pass_tree.specs.Forest.{added, appended}
 use Rattle.first_pass_tree.specs.declared.tree_index.TreeIndex.{TreeIndex}
 use Rattle.first_pass_flank.specs.declared.flank.TableParseMode.{TableParseMode}
+use Rattle.first_pass_flank.specs.declared.flank.TableParseMode.TheVariants.{Active}
 use Rattle.first_pass_html.specs.Ends.{BlockEnd}
 use Rattle.first_pass_lines.specs.Places.{Place}
 use Rattle.first_pass_grammar.specs.Completion.{lines_from}
+use Rattle.first_pass_grammar.specs.Containers.{in_old_footnote}
 use Rattle.first_pass_grammar.specs.Derivation.{no_tables}
 use Rattle.first_pass_grammar.specs.CodeBlocks.{IsFencedCode, IsMetadata}
 use Rattle.first_pass_grammar.specs.HtmlBlocks.{IsHtml}
@@ -20,23 +22,26 @@ use Rattle.first_pass_grammar.specs.OpenOrder.{IsOrderedTo}
 use Rattle.first_pass_grammar.specs.WholeTables.{HasWholeTables}
 use Rattle.first_pass_names.specs.TableEntries.{names_of, tables_of, NamesMore, AddsTexts}
 use Rattle.first_pass_tokens.specs.Braces.{no_braces}
+use Rattle.first_pass_tokens.specs.LineTokens.{is_break}
 use Rattle.first_pass_open.specs.Between.{line_end_at, AddsBetween, MarkerIsInItem, MarkerBetween}
-use Rattle.first_pass_lists.specs.Closing.{state_with, with_block, empty_item_closed}
+use Rattle.first_pass_open.specs.Path.{path_of}
+use Rattle.first_pass_lists.specs.Closing.{state_with, with_block, empty_item_closed, is_item, is_list, top_body}
 use Rattle.first_pass_lists.specs.declared.state.PassState.{PassState}
 use Rattle.first_pass_raw.specs.RawBlocks.{IsPlaceAt, range_of, AppendsRaw, AddsIndented, AddsRaw, fenced_after, metadata_after, html_to_end, html_to_blank}
 use Rattle.first_pass_raw.specs.declared.fenced_code.Fence.{Fence}
 use Rattle.first_pass_raw.specs.declared.raw_line.RawKind.{RawKind}
-use Rattle.first_pass_tables.specs.Appends.{open_table, ReadsRow, ReadsRowLine, AppendsRows, AddsWholeRows}
+use Rattle.first_pass_tables.specs.Appends.{open_table, IsOpenNode, ReadsRow, ReadsRowLine, AppendsRows, AddsWholeRows}
 use Rattle.first_pass_tables.specs.declared.row.CellsWanted.{CellsWanted}
 use Rattle.first_pass_text.specs.Appends.{AddsHeading}
 use Rattle.first_pass_containers.specs.TextsAdded.{AddsText}
-use Rattle.first_pass_blocks.specs.OpenedFootnotes.{ReadsFootnote}
-use Rattle.first_pass_order.specs.Ordered.{IsOrderedAt, IsOrderedFrom, IsReadTo}
+use Rattle.first_pass_blocks.specs.OpenedFootnotes.{ReadsFootnote, StaysSame}
+use Rattle.first_pass_order.specs.Ordered.{IsOrderedAt, IsOrderedFrom, IsReadFrom, IsReadTo}
 use Rattle.first_pass_containers.specs.Positions.{LineAt}
 use Rattle.first_pass_blocks.specs.Progress.{ReadsBlock}
 use Rattle.first_pass_ready.specs.State.{Ready}
 use Rattle.first_pass.specs.declared.state.FirstPass.{FirstPass}
-use Rattle.first_pass.specs.Holds.{after_row}
+use Rattle.first_pass.specs.Closable.{IsClosable}
+use Rattle.first_pass.specs.Holds.{after_row, ContinuesChain, HoldsChain, IsTableOpen}
 use Rattle.first_pass.specs.Lines.{ReadsInMode}
 use Rattle.first_pass.specs.Kept.{StayNamed, KeepsEntries, KeepsNames, KeepsTables}
 use Rattle.first_pass.specs.Views.{allocs_of, braces_of, context_in, document_named, pass_of, state_of, source_of}
@@ -49,7 +54,7 @@ pub record StartsPass (text : List ℕ) (options : Options) (pass : FirstPass) :
   pub options_are : source_options pass ≡ options
   pub empty : tables_of (allocs_of pass) ≡ no_tables
   pub ready : (names : Names) → Ready (document text options names) no_tables (state_of pass) (lines_from text 0)
-  pub order : IsReadTo text (state_of pass) 0
+  pub order : IsClosable text (state_of pass) 0
   pub root : length (tree_of pass).nodes ≡ 1
   pub named : AreNamed (names_of (allocs_of pass)) (tree_of pass).nodes
   pub tables : HasWholeTables (names_of (allocs_of pass)) (tree_of pass)
@@ -69,6 +74,20 @@ pub record RemembersAt (old new : FirstPass) (ix : ℕ) (r : PassState) : Type 0
   pub order : (at : ℕ) → at ≤ ix → ix ≤ length (source_text old) → IsCharBoundary (source_text old) ix → IsReadTo (source_text old) (state_of old) at
       → IsReadTo (source_text old) (state_of new) ix
 
+-- The innermost open node is closed at an offset. If it is no item, the one around it is then no list (CommonMark 5.2,
+-- 5.3, and this project).
+pub record ClosesNode (old new : FirstPass) (ix : ℕ) (r : PassState) : Type 0 where
+  pub closes : RemembersAt old new ix r
+  pub outside : (at : ℕ) → is_item (top_body (tree_of old)) ≡ false → IsReadTo (source_text old) (state_of old) at
+      → is_list (top_body (tree_of new)) ≡ false
+
+-- What a new block ends is closed at an offset. No counting blank line is before the block then, and the innermost open
+-- node is no list (CommonMark 5.2, 5.3, and this project).
+pub record ClosesLists (old new : FirstPass) (ix : ℕ) (r : PassState) : Type 0 where
+  pub closes : RemembersAt old new ix r
+  pub blank : (state_of new).blank ≡ false
+  pub outside : (at : ℕ) → IsReadTo (source_text old) (state_of old) at → is_list (top_body (tree_of new)) ≡ false
+
 -- an empty item, if there is one, is finished; what was in order and could be closed remains so (CommonMark 5.2,
 -- and this project)
 pub record FinishesItem (old new : FirstPass) : Type 0 where
@@ -78,13 +97,16 @@ pub record FinishesItem (old new : FirstPass) : Type 0 where
 
 -- A leaf block that begins at an offset is added, and reading continues at another. No item is empty after it, and
 -- `blank` is true if a counting blank line is directly before the next line. The new nodes lie between the two
--- offsets. The state is in order up to the second offset if the first is a character boundary (this project).
+-- offsets. The state is in order up to the second offset if the first is a character boundary, and its open nodes can
+-- still be closed (this project).
 pub record AddsLeafBlock (old new : FirstPass) (start next : ℕ) (blank : Bool) : Type 0 where
   pub kept : KeepsNames old new
   pub state : state_of new ≡ state_with (tree_of new) None blank
   pub fits : (from : ℕ) → from ≤ start → IsCharBoundary (source_text old) start → AddsBetween (source_text old) from next (tree_of old) (tree_of new)
   pub order : (at : ℕ) → at ≤ start → IsCharBoundary (source_text old) start → IsOrderedAt (source_text old) (state_of old) at
       → IsOrderedAt (source_text old) (state_of new) next
+  pub closable : (at : ℕ) → at ≤ start → IsCharBoundary (source_text old) start → IsClosable (source_text old) (state_of old) at
+      → IsClosable (source_text old) (state_of new) next
 
 -- the same for a block of whole lines, counted from its first character: reading continues at a character boundary,
 -- after the block's first line or later (CommonMark 4.4 to 4.6, and this project)
@@ -93,10 +115,12 @@ pub record AddsLineBlock (old new : FirstPass) (start next : ℕ) (blank : Bool)
   pub later : line_end_at (source_text old) start ≤ next
   pub boundary : IsCharBoundary (source_text old) next
 
--- the ATX heading of a level that begins at an offset is added, and reading continues at another (CommonMark 4.2)
+-- The ATX heading of a level that begins at an offset is added, and reading continues at another, which is a character
+-- boundary if the first is one (CommonMark 4.2).
 pub record AddsAtxHeading (old new : FirstPass) (start : ℕ) (level : HeadingLevel) (next : ℕ) : Type 0 where
   pub block : AddsHeading (document_named old new) start level (tree_of old) (tree_of new) next
   pub leaf : AddsLeafBlock old new start next (state_of old).blank
+  pub boundary : IsCharBoundary (source_text old) start → IsCharBoundary (source_text old) next
 
 -- Indented code is added. The content of its first line begins at an offset, with columns owed there (CommonMark 4.4).
 pub record AddsIndentedCode (old new : FirstPass) (start owed next : ℕ) : Type 0 where
@@ -124,8 +148,8 @@ pub record AddsHtmlToEnd (old new : FirstPass) (start : ℕ) (until : BlockEnd) 
 
 -- An HTML block after these columns is added that ends before a blank line. Its nodes lie between an offset and the
 -- block's end, which may be after the container prefixes of the blank line. Reading continues at the start of that
--- line. The state is in order up to there, or the tree is in order up to after these prefixes (CommonMark 4.6, and this
--- project).
+-- line. The state is in order up to there, or the tree is in order up to after these prefixes. Then the open nodes can
+-- still be closed, unless the line ends a footnote definition in the old form (CommonMark 4.6, and this project).
 pub record AddsHtmlToBlank (old new : FirstPass) (start columns next : ℕ) : Type 0 where
   pub block : (p : Place) → IsPlaceAt (source_text old) start p → let e = html_to_blank (source_text old) (context_in old).path p in
       AddsRaw (document_named old new) (λ d. IsHtml d start columns e.places e.«end») e.left (tree_of old) (tree_of new) next
@@ -137,6 +161,9 @@ pub record AddsHtmlToBlank (old new : FirstPass) (start columns next : ℕ) : Ty
       → AddsBetween (source_text old) from (html_to_blank (source_text old) (context_in old).path p).«end» (tree_of old) (tree_of new)
   pub order : (at : ℕ) → at ≤ start → IsOrderedAt (source_text old) (state_of old) at
       → IsOrderedFrom (source_options old) (source_text old) (state_of new) next
+  pub closable : (at : ℕ) → at ≤ start → IsClosable (source_text old) (state_of old) at
+      → (in_old_footnote (path_of (source_options old) (tree_of old)) ≡ true → (state_of old).blank ≡ false)
+      → IsReadFrom (source_options old) (source_text old) (state_of new) next × (is_list (top_body (tree_of new)) ≡ false)
   pub node_bound : (from : ℕ) → from ≤ start → from < next → GrowsBy from next (tree_of old).nodes (tree_of new).nodes
 
 -- A thematic break of `size` bytes that begins at an offset is added, and reading continues after it. It is in order
@@ -149,6 +176,8 @@ pub record AddsRule (old new : FirstPass) (ix size next : ℕ) : Type 0 where
       → AddsBetween (source_text old) from (ix + size) (tree_of old) (tree_of new)
   pub order : (at : ℕ) → at ≤ ix → IsCharBoundary (source_text old) ix → IsCharBoundary (source_text old) (ix + size)
       → IsOrderedAt (source_text old) (state_of old) at → IsOrderedAt (source_text old) (state_of new) next
+  pub closable : (at : ℕ) → at ≤ ix → IsCharBoundary (source_text old) ix → IsCharBoundary (source_text old) (ix + size)
+      → IsClosable (source_text old) (state_of old) at → IsClosable (source_text old) (state_of new) next
   pub following : next ≡ ix + size
 
 -- The paragraph, setext heading or table at an offset is added, after the marker of its task list item if it has one.
@@ -165,15 +194,19 @@ pub record AddsParagraph (old new : FirstPass) (start : ℕ) (marker : Option It
       → AddsBetween (source_text old) from next (tree_of old) (tree_of new)
   pub order : MarkerIsInItem (tree_of old) marker → (at : ℕ) → MarkerBetween (source_text old) at start marker
       → IsOrderedAt (source_text old) (state_of old) at → IsOrderedAt (source_text old) (state_of new) next
+  pub closable : MarkerIsInItem (tree_of old) marker → (at : ℕ) → MarkerBetween (source_text old) at start marker
+      → IsClosable (source_text old) (state_of old) at → IsClosable (source_text old) (state_of new) next
 
 -- A raw line between two offsets is appended, after the columns owed before it. The state is in order up to the line's
--- end if both offsets are character boundaries (this project).
+-- end if both offsets are character boundaries, and its open nodes can still be closed (this project).
 pub record AppendsRawLine (kind : RawKind) (old new : FirstPass) (owed start «end» : ℕ) : Type 0 where
   pub line : AppendsRaw (range_of kind) (source_text old) (names_of (allocs_of new)) owed start «end» (tree_of old) (tree_of new)
   pub kept : KeepsNames old new
   pub state : state_of new ≡ with_block (state_of old) (tree_of new)
   pub order : (at : ℕ) → at ≤ start → IsCharBoundary (source_text old) start → IsCharBoundary (source_text old) «end»
       → IsOrderedAt (source_text old) (state_of old) at → IsOrderedAt (source_text old) (state_of new) «end»
+  pub closable : (at : ℕ) → at ≤ start → IsCharBoundary (source_text old) start → IsCharBoundary (source_text old) «end»
+      → IsClosable (source_text old) (state_of old) at → IsClosable (source_text old) (state_of new) «end»
 
 -- The tokens between two offsets of a text, which may be cut at `end`, are appended: at most one for each byte, and in
 -- order. The item to which they are added is no longer empty (CommonMark 2.4, GFM 4.10, and this project).
@@ -183,13 +216,31 @@ pub record AppendsTokens (old new : FirstPass) (start : ℕ) (end : Option ℕ) 
   pub boundary : end ≡ None → IsCharBoundary (source_text old) start → IsCharBoundary (source_text old) stop
   pub order : IfSome end (λ e. IsCharBoundary (source_text old) e) → IsCharBoundary (source_text old) start → (at : ℕ) → at ≤ start
       → IsOrderedAt (source_text old) (state_of old) at → IsOrderedAt (source_text old) (state_of new) stop
+  pub closable : IfSome end (λ e. IsCharBoundary (source_text old) e) → IsCharBoundary (source_text old) start → (at : ℕ) → at ≤ start
+      → IsClosable (source_text old) (state_of old) at → IsClosable (source_text old) (state_of new) stop
   pub node_bound : length (tree_of new).nodes ≤ length (tree_of old).nodes + (stop - start)
+
+-- What a line that is read, with the returned line break, does to the open nodes, if its ends are character boundaries.
+-- They can still be closed if the break is appended. If the innermost of them contains a chain up to the line, it
+-- contains one up to the returned offset (CommonMark 6.7, 6.8, and this project).
+pub record ContinuesBlock (old new : FirstPass) (start : ℕ) (end : Option ℕ) (answer : ℕ × Option Item) : Type 0 where
+  pub broken : IfSome end (λ e. IsCharBoundary (source_text old) e) → IsCharBoundary (source_text old) start → (at : ℕ) → at ≤ start
+      → IsClosable (source_text old) (state_of old) at
+      → IfSome answer.1 (λ x. is_break x.body ≡ true → IsClosable (source_text old) (with_tree (state_of new) (appended (tree_of new) x)) answer.0)
+  pub chain : IfSome end (λ e. IsCharBoundary (source_text old) e) → IsCharBoundary (source_text old) start → (block : TreeIndex)
+      → HoldsChain (source_text old) (tree_of old) block start → ContinuesChain (source_text old) (tree_of new) block answer
+
+-- the same unless a cell is read, which no block with text contains (GFM 4.10)
+abbrev pub ContinuesInMode : TableParseMode → FirstPass → FirstPass → ℕ → Option ℕ → ℕ × Option Item → Type 0
+ContinuesInMode Active old new start end answer = Unit {0}
+ContinuesInMode mode old new start end answer = ContinuesBlock old new start end answer
 
 -- A line, a cell of a row, or a possible header row is read, depending on the mode. Reading continues at the returned
 -- offset (CommonMark 2.4, GFM 4.10).
 pub record ReadsContent (mode : TableParseMode) (old new : FirstPass) (start : ℕ) (end : Option ℕ) (answer : ℕ × Option Item) : Type 0 where
   pub line : ReadsInMode mode old new start end answer
   pub tokens : AppendsTokens old new start end answer.0
+  pub block : ContinuesInMode mode old new start end answer
 
 -- The rows of a table with this many columns are added to it, and the table is closed where reading continues. They
 -- are whole, in order, and at most four nodes for each byte, if the line of the header row ends at or before
@@ -202,19 +253,24 @@ pub record ClosesTable (old new : FirstPass) (columns head_start body_start next
       next
   pub order : (at : ℕ) → at ≤ head_start → line_end_at (source_text old) head_start ≤ body_start → IsOrderedTo (source_text old) (tree_of old) at
       → IsOrderedTo (source_text old) (tree_of new) next
+  pub closable : IsTableOpen (tree_of old) → (at : ℕ) → at ≤ head_start → line_end_at (source_text old) head_start ≤ body_start
+      → IsClosable (source_text old) (state_of old) at → IsClosable (source_text old) (state_of new) next
   pub node_bound : (from : ℕ) → from ≤ head_start → line_end_at (source_text old) head_start ≤ body_start → from < next
       → GrowsBy from next (tree_of old).nodes (tree_of new).nodes
   pub tables : AddsWholeRows (document (source_text old) (source_options old) (names_of (allocs_of new))) columns head_start (tree_of old) (tree_of new) next
 
 -- A row of a table that begins at an offset is read, or there is none. It is in order and has at most four nodes for
--- each byte, if the offset is a character boundary. Its texts are appended to the named texts (GFM 4.10,
--- and this project).
+-- each byte, if the offset is a character boundary. Its texts are appended to the named texts. The table remains open,
+-- and its nodes can still be closed (GFM 4.10, and this project).
 pub record ReadsRowFrom (old new : FirstPass) (ix next : ℕ) : Type 0 where
   pub kept : KeepsEntries old new
   pub texts : AddsTexts (names_of (allocs_of new)) (names_of (allocs_of old))
   pub state : state_of new ≡ with_tree (state_of old) (tree_of new)
   pub order : IsCharBoundary (source_text old) ix → (at : ℕ) → at ≤ ix → IsOrderedTo (source_text old) (tree_of old) at
       → IsOrderedTo (source_text old) (tree_of new) next
+  pub closable : IsTableOpen (tree_of old) → IsCharBoundary (source_text old) ix → (at : ℕ) → at ≤ ix
+      → IsClosable (source_text old) (state_of old) at → IsClosable (source_text old) (state_of new) next × IsTableOpen (tree_of new)
+  pub open_node : IsCharBoundary (source_text old) ix → IsOpenNode (tree_of old) → IsOpenNode (tree_of new)
   pub node_bound : IsCharBoundary (source_text old) ix → (from : ℕ) → from ≤ ix → from < next → GrowsBy from next (tree_of old).nodes (tree_of new).nodes
 
 -- A row of a table is read from an offset on, after the container prefixes of its line, or there is none. The numbers
@@ -238,8 +294,9 @@ pub record OpensFootnote (old new : FirstPass) (start : ℕ) (size : Option ℕ)
   pub braces : braces_of new ≡ braces_of old
   pub named : StayNamed old new
   pub head : ReadsFootnote (pass_of old) (pass_of new) start size
+  pub none : size ≡ None → StaysSame (pass_of old) (pass_of new)
   pub within : IfSome size (λ n. (3 < n) × IsCharBoundary (source_text old) (start + n))
-  pub order : IfSome size (λ n. (at : ℕ) → at ≤ start → IsReadTo (source_text old) (state_of old) at → IsReadTo (source_text old) (state_of new) start)
+  pub order : IfSome size (λ n. (at : ℕ) → at ≤ start → IsReadTo (source_text old) (state_of old) at → IsClosable (source_text old) (state_of new) start)
 
 -- The head of a footnote definition is sought at an offset, and opened if one begins there. The text and the options
 -- are the same, also after an error (this project).

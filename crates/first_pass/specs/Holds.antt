@@ -1,16 +1,18 @@
 -- The contents of an open paragraph, the heading that an underline makes of it, and where reading continues after a
 -- row of a table.
-use Rattle.std.specs.Prelude.{◌≡◌, ℕ, ◌+◌, ◌-◌, ◌<◌, ◌≤◌, true, Bool, List, [], ◌∷◌, ◌++◌, length, drop, max, slice_index, Option, Some, None, MatchOption}
-use Rattle.std.specs.Prelude.{IsCharBoundary}
+use Rattle.std.specs.Prelude.{◌≡◌, ℕ, ◌+◌, ◌-◌, ◌<◌, ◌≤◌, true, Bool, List, [], ◌∷◌, ◌++◌, length, drop, max, slice_get, slice_index, Option, Some, None}
+use Rattle.std.specs.Prelude.{MatchOption}
+use Rattle.std.specs.Prelude.{IfSome, IsCharBoundary}
 use Rattle.std.specs.Option.{option_map}
 use Rattle.first_pass_items.specs.Bytes.{backslash}
 use Rattle.first_pass_items.specs.declared.item.Item.{Item}
-use Rattle.first_pass_items.specs.declared.item.ItemBody.TheVariants.{Paragraph}
+use Rattle.first_pass_items.specs.declared.item.AlignmentIndex.{AlignmentIndex}
+use Rattle.first_pass_items.specs.declared.item.ItemBody.TheVariants.{Paragraph, Table}
 use Rattle.first_pass_tree.specs.declared.tree_index.TreeIndex.{TreeIndex}
-use Rattle.first_pass_tree.specs.Forest.{Forest, is_escaped, item_at}
+use Rattle.first_pass_tree.specs.Forest.{Forest, appended, is_escaped, item_at}
 use Rattle.first_pass_scan.specs.LeafLines.{setext_underline}
 use Rattle.first_pass_tokens.specs.Braces.{no_braces}
-use Rattle.first_pass_tokens.specs.LineTokens.{spot}
+use Rattle.first_pass_tokens.specs.LineTokens.{is_break, spot}
 use Rattle.first_pass_tokens.specs.TreeTokens.{chained}
 use Rattle.first_pass_grammar.specs.Completion.{lines_from}
 use Rattle.first_pass_grammar.specs.Leaves.{Document, document, TextLines, AreTextLines, marker_items}
@@ -20,8 +22,10 @@ use Rattle.first_pass_names.specs.TableEntries.{names_of}
 use Rattle.first_pass_open.specs.Between.{line_end_at, MarkerBetween}
 use Rattle.first_pass_open.specs.OpenBlock.{IsJustPushed, begun_item, with_child}
 use Rattle.first_pass_open.specs.Path.{path_of}
+use Rattle.first_pass_lists.specs.Closing.{top_body}
 use Rattle.first_pass_text.specs.CutTexts.{BecomesHeading}
 use Rattle.first_pass.specs.declared.state.FirstPass.{FirstPass}
+use Rattle.first_pass.specs.Closable.{IsClosable}
 use Rattle.first_pass.specs.Kept.{KeepsNames}
 use Rattle.first_pass.specs.Views.{allocs_of, state_of, source_options, source_text, tree_of, with_tree}
 
@@ -49,6 +53,43 @@ pub record HoldsTokens (text : List ℕ) (f : Forest Item) (block : TreeIndex) :
   pub has_text : is_text_block node.body ≡ true
   pub tokens : AreTokens text (length f.spine + 1) node.start (drop (block.0 + 1) f.nodes)
 
+-- These tokens are in order between two offsets. Each escaped text is directly after its backslash, which is in no token
+-- (CommonMark 2.4, and this project).
+abbrev pub AreTokensIn : List ℕ → ℕ → ℕ → List Item → Type 0
+AreTokensIn text from to [] = from ≤ to
+AreTokensIn text from to (x ∷ xs) =
+    (from ≤ x.start) × (x.start ≤ x.«end») × IsCharBoundary text x.start × IsCharBoundary text x.«end» × StandsAfterBackslash text from x
+    × AreTokensIn text x.«end» to xs
+
+-- The innermost open node is a paragraph, or another block with text. It contains a chain of such tokens from its start
+-- to an offset, after the marker of its task list item if it has one. `before` is the tree as the block was opened
+-- (CommonMark 4.8, GFM 5.3).
+pub record HoldsChain (text : List ℕ) (f : Forest Item) (block : TreeIndex) (to : ℕ) : Type 0 where
+  pub before : Forest Item
+  pub node : Item
+  pub marker : Option Item
+  pub from : ℕ
+  pub chain : List Item
+  pub opened : IsJustPushed before block
+  pub begun : item_at before block ≡ Some node
+  pub innermost : slice_get f.spine 0 ≡ Some block
+  pub there : item_at f block ≡ Some node
+  pub has_text : is_text_block node.body ≡ true
+  pub starts : IsCharBoundary text node.start
+  pub stands : MarkerBetween text from node.start marker
+  pub tokens : AreTokensIn text node.start to chain
+  pub tree_is : f ≡ chained before (marker_items marker ++ chain)
+
+-- A line of a chain was read: the chain is in the tree, also if the break at the end of the line is appended
+-- (CommonMark 6.7, 6.8).
+pub record ContinuesChain (text : List ℕ) (f : Forest Item) (block : TreeIndex) (answer : ℕ × Option Item) : Type 0 where
+  pub chain : HoldsChain text f block answer.0
+  pub broken : IfSome answer.1 (λ x. is_break x.body ≡ true → HoldsChain text (appended f x) block answer.0)
+
+-- the innermost open node is a table (GFM 4.10)
+abbrev pub IsTableOpen : Forest Item → Type 0
+IsTableOpen f = (index : AlignmentIndex) × (top_body f ≡ Some (Table index))
+
 -- An open paragraph contains the chain of a text's lines, after the marker of its task list item if it has one. The
 -- tree is in order up to the text (CommonMark 4.8, GFM 5.3).
 pub record HoldsText (d : Document) (f : Forest Item) (block : TreeIndex) (l : TextLines) : Type 0 where
@@ -65,7 +106,8 @@ pub record HoldsText (d : Document) (f : Forest Item) (block : TreeIndex) (l : T
   pub ordered : IsOrderedTo d.text (with_child before marker) start
 
 -- The innermost block becomes a heading if a setext heading underline begins at an offset; otherwise nothing changes.
--- No node is added. If the block contains tokens, a tree in order stays in order (CommonMark 4.3, and this project).
+-- No node is added. If the block contains tokens, a tree in order stays in order; if these are a chain, the open nodes
+-- can still be closed (CommonMark 4.3, and this project).
 pub record MakesHeading (old new : FirstPass) (ix : ℕ) (block : TreeIndex) (broken : Bool) (next : Option ℕ) : Type 0 where
   pub kept : KeepsNames old new
   pub state : state_of new ≡ with_tree (state_of old) (tree_of new)
@@ -76,3 +118,5 @@ pub record MakesHeading (old new : FirstPass) (ix : ℕ) (block : TreeIndex) (br
   pub node_bound : length (tree_of new).nodes ≤ length (tree_of old).nodes
   pub order : (at : ℕ) → HoldsTokens (source_text old) (tree_of old) block → IsOrderedTo (source_text old) (tree_of old) at
       → IsOrderedTo (source_text old) (tree_of new) at
+  pub closable : (at to : ℕ) → HoldsChain (source_text old) (tree_of old) block to → IsClosable (source_text old) (state_of old) at
+      → IsClosable (source_text old) (state_of new) at

@@ -1,4 +1,5 @@
 pub mod Calls
+pub mod Closable
 pub mod Holds
 pub mod Interrupts
 pub mod Kept

@@ -59,6 +59,7 @@ impl<'a> FirstPass<'a> {
             MakesHeading self.old self.new ix node_ix has_trailing_content next) }
     {
         let pass = &mut self.pass;
+        pass.state.tree.recall_forest();
         let bytes = rest_of(pass.source.text.as_bytes(), ix);
         let Some((length, level)) = scan_setext_heading(bytes) else {
             return Ok(None);

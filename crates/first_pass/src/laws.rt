@@ -1,17 +1,26 @@
-//! Laws of the contents of an open paragraph, of the number of nodes, and of dashes.
+//! Laws of the contents of an open paragraph, of the order and the nodes of a pass between two calls, and of dashes.
 
-ghost use Rattle.first_pass.specs.Holds.{HoldsText, HoldsTokens};
+ghost use Rattle.first_pass.specs.Closable.{IsClosable};
+ghost use Rattle.first_pass.specs.Holds.{HoldsChain, HoldsText, HoldsTokens};
 ghost use Rattle.first_pass_grammar.specs.Counting.{counted_nodes, inserted_cells};
 ghost use Rattle.first_pass_grammar.specs.Leaves.{Document, TextLines};
 ghost use Rattle.first_pass_grammar.specs.Names.{Names};
 ghost use Rattle.first_pass_grammar.specs.OpenOrder.{IsOrderedTo};
+ghost use Rattle.first_pass_grammar.specs.Order.{is_task_marker, is_text_block};
 ghost use Rattle.first_pass_grammar.specs.WholeTables.{HasWholeTables};
 ghost use Rattle.first_pass_items.specs.declared.item.Item.{Item};
+ghost use Rattle.first_pass_items.specs.declared.item.ItemBody.{ItemBody};
+ghost use Rattle.first_pass_items.specs.declared.option_set.Options.{Options};
 ghost use Rattle.first_pass_lines.specs.Places.{start_of};
+ghost use Rattle.first_pass_lists.specs.Closing.{begun, is_list, top_body, with_block};
+ghost use Rattle.first_pass_lists.specs.declared.state.PassState.{PassState};
+ghost use Rattle.first_pass_open.specs.OpenBlock.{IsJustPushed};
+ghost use Rattle.first_pass_order.specs.Ordered.{IsReadFrom, IsReadTo};
+ghost use Rattle.first_pass_tables.specs.Appends.{IsOpenNode};
 ghost use Rattle.first_pass_tokens.specs.NamedTexts.{dash_counts};
 ghost use Rattle.first_pass_tree.specs.declared.tree_index.TreeIndex.{TreeIndex};
-ghost use Rattle.first_pass_tree.specs.Forest.{Forest};
-ghost use Rattle.std.specs.Prelude.{◌≡◌, ◌==◌, ◌≤◌, ◌+◌, ◌*◌, ◌%◌, ℕ, false, length, IsUtf8};
+ghost use Rattle.first_pass_tree.specs.Forest.{item_at, Forest, IsForest};
+ghost use Rattle.std.specs.Prelude.{◌≡◌, ◌==◌, ◌≤◌, ◌+◌, ◌*◌, ◌%◌, ℕ, false, length, true, IsCharBoundary, IsUtf8, List, Some};
 
 /// The children of a paragraph whose lines were read are tokens, and the tree is in order up to the end of these
 /// lines. So `parse_setext_heading` may be called, and keeps that order (CommonMark 4.3, 4.8).
@@ -21,9 +30,33 @@ pub fn lines_are_tokens()
         → HoldsTokens d.text f block × IsOrderedTo d.text f (start_of (length d.text) l.left) }
 {}
 
-/// The nodes of a tree with whole tables are at most its counted nodes and its inserted cells together. `node_bound` of
-/// `parse_block` and other calls adds at most four counted nodes for each byte to the root. So at every offset there are
-/// at most four nodes for each byte before it, apart from the root and the inserted cells (this project).
+/// A block is opened, and nothing in it is read yet. It is the innermost open node and the last one. If it is no list,
+/// the open nodes can be closed there. If it has text, it contains an empty chain, so its lines can be read one by one
+/// by `parse_line` (CommonMark 4.8, and this project).
+pub fn block_begins()
+    ensures pushed { (start : ℕ) (body : ItemBody) (r : PassState)
+        → IsJustPushed (begun start body r).tree (record { 0 = length r.tree.nodes })
+        × IsOpenNode (begun start body r).tree }
+    ensures innermost { (start : ℕ) (body : ItemBody) (r : PassState) → top_body (begun start body r).tree ≡ Some body }
+    ensures closable { (text : List ℕ) (r : PassState) (at start : ℕ) (body : ItemBody) → IsClosable text r at
+        → at ≤ start → IsCharBoundary text start → is_list (Some body) ≡ false
+        → IsClosable text (begun start body (with_block r r.tree)) start }
+    ensures chain { (text : List ℕ) (start : ℕ) (body : ItemBody) (r : PassState) → is_text_block body ≡ true
+        → IsCharBoundary text start
+        → HoldsChain text (begun start body r).tree (record { 0 = length r.tree.nodes }) start }
+{}
+
+/// The open nodes can be closed at an offset that is not before the end of the last block, also if that is an HTML
+/// block before a blank line (CommonMark 4.6, and this project).
+pub fn ended_block_is_closable()
+    ensures { (options : Options) (text : List ℕ) (r : PassState) (at : ℕ) (last : TreeIndex) (x : Item)
+        → IsForest r.tree → IsReadFrom options text r at → r.tree.current ≡ Some last → item_at r.tree last ≡ Some x
+        → is_task_marker x.body ≡ false → x.«end» ≤ at → IsReadTo text r at }
+{}
+
+/// The nodes of a tree with whole tables are at most its counted nodes and its inserted cells together. By `node_bound`
+/// of `parse_block` and other calls, the counted nodes beside the root are at most four for each byte that was read. So
+/// are the nodes beside the root and the inserted cells (this project).
 pub fn nodes_are_counted()
     ensures all { (names : Names) (f : Forest Item) → HasWholeTables names f
         → length f.nodes ≤ counted_nodes f.nodes + inserted_cells f.nodes }

@@ -4,7 +4,7 @@ ghost use Rattle.first_pass.specs.Calls.{AddsAtxHeading, AddsParagraph, AddsRule
 ghost use Rattle.first_pass.specs.Views.{source_text};
 ghost use Rattle.first_pass_lines.specs.Lines.{atx_level as atx_level_of};
 ghost use Rattle.first_pass_tree.specs.Forest.{is_text};
-ghost use Rattle.std.specs.Prelude.{◌≡◌, ◌+◌, ◌≤◌, drop, Some, false, length, IfOk, IfSome, IsCharBoundary};
+ghost use Rattle.std.specs.Prelude.{◌≡◌, ◌+◌, ◌≤◌, drop, Some, false, length, IfOk, IfSome, IsCharBoundary, IsUtf8};
 
 use crate::state::FirstPass;
 use first_pass_items::item::{HeadingLevel, Item};
@@ -43,6 +43,7 @@ impl<'a> FirstPass<'a> {
         ensures { IfOk result (λ next. AddsAtxHeading self.old self.new start atx_level next) }
     {
         let pass = &mut self.pass;
+        recall_utf8(pass.source.text);
         let next = heading::parse_atx_heading(
             &pass.source,
             &mut pass.state.tree,
@@ -66,4 +67,11 @@ impl<'a> FirstPass<'a> {
         pass.state.begin_list_item = None;
         Ok(next)
     }
+}
+
+// Recalls the invariant of a text, for the proof of a caller.
+fn recall_utf8(text: &str)
+    ensures { IsUtf8 text.now }
+{
+    let _bytes = text.as_bytes();
 }

@@ -16,7 +16,9 @@ mod raw;
 mod state;
 mod table;
 
-pub use crate::laws::{law_of_dashes, lines_are_tokens, nodes_are_counted};
+pub use crate::laws::{
+    block_begins, ended_block_is_closable, law_of_dashes, lines_are_tokens, nodes_are_counted,
+};
 pub use first_pass_attributes::attrs;
 pub use first_pass_below::below::{Item, ItemBody, Options, Tree};
 pub use first_pass_below::{below, flank, walk};

@@ -1,6 +1,6 @@
 //! A line of a paragraph, or a cell of a table row, as a call of the pass (CommonMark 2.4, 4.8, GFM 4.10).
 
-ghost use Rattle.first_pass.specs.Calls.{AppendsTokens, ReadsContent};
+ghost use Rattle.first_pass.specs.Calls.{AppendsTokens, ContinuesBlock, ReadsContent};
 ghost use Rattle.first_pass.specs.Lines.{CanBeRead, ContentReachesTo, ReadsPossibleHead};
 ghost use Rattle.first_pass.specs.Views.{source_text};
 ghost use Rattle.first_pass_flank.specs.declared.flank.TableParseMode.TheVariants.{Active, Disabled};
@@ -22,13 +22,16 @@ impl<'a> FirstPass<'a> {
     ///
     /// Mode `Disabled` reads a line. Returns the offset after its line ending, and its line break, which is not
     /// appended; or `None` if the text ends without a line ending (CommonMark 2.4, 6.7, 6.8). Mode `Active` reads a
-    /// cell. Returns the end of its content, at an unescaped pipe or at the end of the line, and `None` (GFM 4.10).
-    /// Mode `Scan` reads a line that may be the header row of a table. If it is one, returns the offset after the
-    /// delimiter row, and a `Table` with the columns' alignments in place of the line break. The table is not appended
-    /// either; it extends from the end of the line's content to that offset. Otherwise it is as mode `Disabled`.
+    /// cell. Returns the end of its content, at the end of the line or, if the options have tables, at an unescaped
+    /// pipe, and `None` (GFM 4.10). Mode `Scan` reads a line that may be the header row of a table. If it is one,
+    /// returns the offset after the delimiter row, and a `Table` with the columns' alignments in place of the line
+    /// break. The table is not appended either; it extends from the end of the line's content to that offset. Otherwise
+    /// it is as mode `Disabled`.
     ///
     /// Texts of the tokens are added after the named texts. The brace contexts are those of the call before, or none
-    /// in a new pass. At most one node is added for each byte that is read. Fails only if an allocation fails.
+    /// in a new pass. At most one node is added for each byte that is read. An open block with text that contains a
+    /// chain of tokens contains one after the call, also if the returned line break is appended. Fails only if an
+    /// allocation fails.
     pub fn parse_line(
         &mut self,
         start: usize,
@@ -116,6 +119,7 @@ impl<'a> FirstPass<'a> {
         requires { CanBeRead (source_text self.old) start end }
         ensures line { IfOk result (λ answer. ReadsPossibleHead self.old self.new start end answer) }
         ensures tokens { IfOk result (λ answer. AppendsTokens self.old self.new start end answer.0) }
+        ensures block { IfOk result (λ answer. ContinuesBlock self.old self.new start end answer) }
     {
         let bytes = text_upto(self.pass.source.text, end);
         let line = rest_of(bytes, start);

@@ -1,7 +1,7 @@
 //! Lists, definition lists and their items, as calls of the pass: how they continue, become loose and are closed
 //! (CommonMark 5.2, 5.3).
 
-ghost use Rattle.first_pass.specs.Calls.{FinishesItem, RemembersAt};
+ghost use Rattle.first_pass.specs.Calls.{ClosesLists, ClosesNode, FinishesItem, RemembersAt};
 ghost use Rattle.first_pass.specs.Views.{state_of, tree_of};
 ghost use Rattle.first_pass_lists.specs.Closing.{popped, list_finished, list_continued};
 ghost use Rattle.std.specs.Prelude.{IsSome, slice_get, OnOk};
@@ -16,7 +16,7 @@ impl<'a> FirstPass<'a> {
     /// project).
     pub fn pop(&mut self, ix: usize)
         requires { IsSome (slice_get (tree_of self.old).spine 0) }
-        ensures { RemembersAt self.old self.new ix (popped ix (state_of self.old)) }
+        ensures { ClosesNode self.old self.new ix (popped ix (state_of self.old)) }
     {
         let pass = &mut self.pass;
         pass.state.pop(ix);
@@ -36,7 +36,7 @@ impl<'a> FirstPass<'a> {
     /// title ends with its last definition. If a counting blank line precedes the block, the list whose item contains
     /// the block becomes loose.
     pub fn finish_list(&mut self, ix: usize)
-        ensures { RemembersAt self.old self.new ix (list_finished ix (state_of self.old)) }
+        ensures { ClosesLists self.old self.new ix (list_finished ix (state_of self.old)) }
     {
         let pass = &mut self.pass;
         pass.state.finish_list(ix);

@@ -24,6 +24,7 @@ impl<'a> FirstPass<'a> {
         ensures { IfOk result (λ pass. StartsPass text.now options pass) }
     {
         let pass = BlockPass::new(alloc, text, options)?;
+        pass.state.tree.recall_forest();
         Ok(FirstPass {
             pass,
             braces: BraceContexts::new(),

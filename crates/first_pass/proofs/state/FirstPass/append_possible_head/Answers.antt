@@ -1,8 +1,10 @@
 use Rattle.std.proofs.Common.{◌≡◌, ◌+◌, ◌≤◌, ℕ, List, length, drop, Option, Some, None, IfSome, IsCharBoundary, sym, ap, subst, ◌∙◌, arith, length-take-le}
-use Rattle.first_pass_grammar.proofs.Common.{line_len, text_upto}
+use Rattle.first_pass_grammar.proofs.Common.{false≢true, line_len, text_upto}
 use Rattle.first_pass_blocks.proofs.Common.{named_more, names_of, extends_both, extends_alignments, line_stops}
 use Rattle.first_pass.specs.Views.{allocs_of, tree_of}
 use Rattle.first_pass_order.proofs.OrderLemmas.{ordered_at_later}
+use Rattle.first_pass.proofs.Chains.{chain_later}
+use Rattle.first_pass.proofs.Closable.{closable_later}
 use Rattle.first_pass.proofs.state.FirstPass.append_possible_head.Goals as goal
 
 upto_within : (text : List ℕ) (start : ℕ) (end : Option ℕ) → IfSome end (λ e. (start ≤ e) × (e ≤ length text)) → length (text_upto text end) ≤ length text
@@ -39,5 +41,23 @@ returns-clause-tokens c =
           subst (IsCharBoundary text) (sym there) (line_stops text next c.in_ok-next.ensures.place.utf8 (e.boundary whole boundary));
       order = λ ends boundary at low o.
           ordered_at_later text c.append_content.new.self.pass.state next c.next_line.result later (omega arith) (e.order ends boundary at low o);
+      closable = λ ends boundary at low h.
+          closable_later text c.append_content.new.self.pass.state next c.next_line.result later (omega arith) (e.closable ends boundary at low h);
       node_bound = omega arith;
+    }
+
+pub returns-clause-block : goal.returns-clause-block
+returns-clause-block c =
+    let text = c.args.self.now.pass.source.text.now in
+    let next = c.in_ok-next.next in
+    let within = c.next_line.ensures.within in
+    let value = c.next_line.ensures.value in
+    let later : next ≤ c.next_line.result = omega arith in
+    let e = c.in_ok-next.ensures.line.block in
+    record {
+      broken = λ ends boundary at low h kind. absurd (false≢true kind);
+      chain = λ ends boundary block h. record {
+        chain = chain_later text (tree_of c.append_content.new.self) block next c.next_line.result later (e.chain ends boundary block h).chain;
+        broken = λ kind. absurd (false≢true kind);
+      };
     }

@@ -1,10 +1,14 @@
-use Rattle.std.proofs.Common.{◌≡◌, length, None, refl, ap, ◌∙◌}
+use Rattle.std.proofs.Common.{◌≡◌, ℕ, ◌≤◌, length, None, refl, sym, ap, subst, ◌∙◌}
 use Rattle.first_pass_grammar.proofs.Common.{offset, lines_from}
 use Rattle.first_pass_blocks.proofs.Common.{path_of, after_line_at, html_to_blank, PassState, names_of, extends_none, first_at, first_is, path_added}
-use Rattle.first_pass_blocks.proofs.Common.{block_ordered}
+use Rattle.first_pass_blocks.proofs.Common.{block_ordered, IsOrderedAt}
+use Rattle.first_pass_grammar.specs.Containers.{in_old_footnote}
+use Rattle.first_pass_order.specs.Ordered.{IsOrderedFrom}
+use Rattle.first_pass_order.proofs.Nests.{added_outside}
 use Rattle.first_pass_blocks.proofs.Leaves.KindBlocks.{html_stops, ordered_stopped, to_blank_between, to_blank_stands, to_blank_few}
 use Rattle.first_pass.proofs.Added.{adds_kept}
 use Rattle.first_pass.proofs.CallsNamed.{html_named}
+use Rattle.first_pass.proofs.Closable.{IsOutside, read_from}
 use Rattle.first_pass.proofs.state.FirstPass.parse_html_block_type_6_or_7.Goals as goal
 
 pub returns : goal.returns
@@ -21,7 +25,14 @@ returns c =
     let block = e.block p i in
     let path : path_of options new.tree ≡ path_of options old.tree =
     ap (path_of options) block.tree_is ∙ path_added options old.tree block.items c.recall_forest.ensures in
+    let next = c.in_ok-next.next in
     let ends = to_blank_stands text options names old.tree new.tree c.args.start_ix c.in_ok-next.next e.utf8 c.requires.boundary e.boundary.1.0 p i in
+    let ordered : (at : ℕ) → at ≤ c.args.start_ix → IsOrderedAt text old at → IsOrderedFrom options text new next =
+    λ at low o.
+    ordered_stopped options text new (path_of options old.tree) (html_to_blank text (path_of options old.tree) p) next
+    e.boundary.1 refl path (html_stops (length text) (path_of options old.tree) p (lines_from text (after_line_at text (offset p)))) block.left_is
+    (block_ordered text old new at c.args.start_ix _ o low
+    (to_blank_between _ _ _ _ _ c.args.start_ix _ e.utf8 c.requires.boundary e.boundary.1.0 _ p i block) ends.boundary.0 refl) in
     record {
       block = rw c.max.ensures at e.block;
       kept = adds_kept {blank = old.blank} block.items (refl, refl, refl) e.more block.tree_is (html_named (block.are names (extends_none names)));
@@ -29,10 +40,10 @@ returns c =
       later = e.boundary.0;
       boundary = e.boundary.1;
       fits = λ p i. to_blank_between _ _ _ _ _ c.args.start_ix _ e.utf8 c.requires.boundary e.boundary.1.0 _ p i (e.block p i);
-      order = λ at low o.
-          ordered_stopped options text new (path_of options old.tree) (html_to_blank text (path_of options old.tree) p) c.in_ok-next.next
-          e.boundary.1 refl path (html_stops (length text) (path_of options old.tree) p (lines_from text (after_line_at text (offset p)))) block.left_is
-          (block_ordered text old new at c.args.start_ix _ o low
-          (to_blank_between _ _ _ _ _ c.args.start_ix _ e.utf8 c.requires.boundary e.boundary.1.0 _ p i block) ends.boundary.0 refl);
+      order = ordered;
+      closable = λ at low h plain.
+          read_from options text new next
+          (subst IsOutside (sym block.tree_is) (added_outside old.tree block.items h.read.1.nested h.outside))
+          (λ inside. plain (ap in_old_footnote (sym path) ∙ inside)) (ordered at low h.read.0);
       node_bound = to_blank_few _ _ _ _ _ c.args.start_ix _ e.utf8 c.requires.boundary e.boundary.1.0 _ p i block;
     }

@@ -1,7 +1,7 @@
 use Rattle.std.proofs.Common.{rules, refl, arith}
 use Rattle.first_pass_blocks.proofs.Common.{extends_none}
 use Rattle.first_pass.proofs.CallsNamed.{heading_named}
-use Rattle.first_pass.proofs.CutOrder.{heading_ordered}
+use Rattle.first_pass.proofs.CutOrder.{heading_closable, heading_ordered}
 use Rattle.first_pass.proofs.state.FirstPass.parse_setext_heading.Goals as goal
 
 pub returns-in_default : goal.returns-in_default
@@ -15,6 +15,7 @@ returns-in_default c = record {
   heading = search rules;
   node_bound = omega arith;
   order = λ at holds o. o;
+  closable = λ at to holds h. h;
 }
 
 pub returns : goal.returns
@@ -27,4 +28,5 @@ returns c =
       heading = search rules;
       node_bound = e.node_bound;
       order = λ at holds o. heading_ordered c.requires.open e.heading holds o;
+      closable = λ at to holds h. heading_closable c.args.self.now.pass.state c.make_heading.new.tree at to c.recall_forest.ensures e.heading holds h;
     }

@@ -1,11 +1,18 @@
-use Rattle.std.proofs.Common.{refl}
+use Rattle.std.proofs.Common.{refl, sym, ap, ◌∙◌, true≢false}
+use Rattle.first_pass_blocks.proofs.Common.{is_list, top_body, PassState}
 use Rattle.first_pass_order.proofs.NamedLemmas.{popped_named}
+use Rattle.first_pass_order.proofs.Nests.{popped_outside}
 use Rattle.first_pass_order.proofs.PopOrder.{pop_keeps_order}
 use Rattle.first_pass.proofs.state.FirstPass.pop.Goals as goal
 
 pub returns : goal.returns
 returns c = record {
-  kept = record { source = refl; tables = refl; named = λ h. rw c.pop.ensures (popped_named _ _ _ h); braces = refl };
-  state = c.pop.ensures;
-  order = λ at later within ends h. pop_keeps_order _ _ _ at _ c.pop.ensures later within ends h;
+  closes = record {
+    kept = record { source = refl; tables = refl; named = λ h. rw c.pop.ensures (popped_named _ _ _ h); braces = refl };
+    state = c.pop.ensures;
+    order = λ at later within ends h. pop_keeps_order _ _ _ at _ c.pop.ensures later within ends h;
+  };
+  outside = λ at other h.
+      ap (λ (r : PassState). is_list (top_body r.tree)) c.pop.ensures
+      ∙ (popped_outside c.args.ix c.args.self.now.pass.state h.1.nested (λ item. true≢false (sym item ∙ other))).1;
 }

@@ -1,0 +1,18 @@
+use Rattle.std.proofs.Common.{rules}
+use Rattle.first_pass.proofs.BetweenCalls.{new_closable}
+use Rattle.first_pass.proofs.state.FirstPass.new.Goals as goal
+
+pub returns : goal.returns
+returns c =
+    let e = c.in_ok-pass.ensures in
+    record {
+      text_is = e.text;
+      options_are = e.options;
+      empty = e.empty;
+      ready = e.ready;
+      order = new_closable c.args.text.now c.in_ok-pass.pass.state c.recall_forest.ensures e.root e.order;
+      root = e.root;
+      named = e.named;
+      tables = e.tables;
+      braces = search rules;
+    }
