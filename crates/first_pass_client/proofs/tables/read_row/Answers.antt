@@ -1,0 +1,26 @@
+use Rattle.std.proofs.Common.{◌≡◌, ℕ, List, ap, subst, arith, rules}
+use Rattle.first_pass.specs.Closable.{IsClosable}
+use Rattle.first_pass.specs.Holds.{after_row}
+use Rattle.first_pass_client.proofs.Moves.{same_text}
+use Rattle.first_pass_client.proofs.tables.read_row.Goals as goal
+
+pub returns : goal.returns
+returns c =
+    let h = c.requires.place in
+    let text = c.args.pass.now.pass.source.text.now in
+    let new = c.parse_table_row.new.self in
+    let at = c.args.at in
+    let e = c.in_ok-end.ensures.reads in
+    let ends : after_row c.in_ok-end.field-0 at ≡ c.in-Some.end = ap (λ r. after_row r at) c.in-Some.is in
+    let both = e.closable c.requires.table h.boundary h.from h.low h.order in
+    record {
+      place = record {
+        from = c.in-Some.end;
+        low = omega arith;
+        order = subst (λ (t : List ℕ). IsClosable t new.pass.state c.in-Some.end) (same_text c.args.pass.now new e.kept.source)
+            (subst (λ (k : ℕ). IsClosable text new.pass.state k) ends both.0);
+        boundary = search rules;
+      };
+      table = both.1;
+      node = e.open_node h.boundary c.requires.node;
+    }

@@ -1,0 +1,64 @@
+//! A table is opened, and its rows are read, all at once or one by one.
+
+ghost use Rattle.first_pass_client.specs.Places.{InNewTable, InTable, MayAdd};
+ghost use Rattle.std.specs.Prelude.{IfOk, IfSome, OnOk};
+
+use crate::lists::open_block;
+use first_pass::below::{AlignmentIndex, ItemBody};
+use first_pass::block_begins;
+use first_pass::pass::FirstPass;
+use first_pass_lines::places::next_line;
+use std::alloc::AllocError;
+
+/// Opens a table at an offset.
+pub fn begin_table(
+    pass: &mut FirstPass<'_>,
+    at: usize,
+    alignments: AlignmentIndex,
+) -> Result<(), AllocError>
+    requires { MayAdd pass.old at }
+    ensures { OnOk result (InNewTable pass.new at) }
+{
+    block_begins();
+    let reader = &mut pass.pass;
+    open_block(&mut reader.state, at, ItemBody::Table(alignments))?;
+    Ok(())
+}
+
+/// Reads all rows of a new table, and closes it. The delimiter row is in the line after the header row. Returns `None`
+/// if that line does not end between two characters; each line does.
+pub fn read_rows(
+    pass: &mut FirstPass<'_>,
+    at: usize,
+    columns: usize,
+) -> Result<Option<usize>, AllocError>
+    requires { InNewTable pass.old at }
+    ensures { IfOk result (λ next. IfSome next (λ n. MayAdd pass.new n)) }
+{
+    let text = pass.pass.source.text;
+    let body = next_line(text.as_bytes(), next_line(text.as_bytes(), at));
+    if !text.is_char_boundary(body) {
+        return Ok(None);
+    }
+    let next = pass.parse_table(columns, at, body)?;
+    Ok(next)
+}
+
+/// Reads the row in a line. Returns the offset after it, or `None` if there is no row.
+pub fn read_row(
+    pass: &mut FirstPass<'_>,
+    at: usize,
+    columns: usize,
+    missing: &mut usize,
+) -> Result<Option<usize>, AllocError>
+    requires { InTable pass.old at }
+    ensures { IfOk result (λ next. IfSome next (λ n. InTable pass.new n)) }
+{
+    let Some((end, _row)) = pass.parse_table_row(at, columns, missing)? else {
+        return Ok(None);
+    };
+    if !pass.pass.source.text.is_char_boundary(end) {
+        return Ok(None);
+    }
+    Ok(Some(end))
+}
