@@ -6,11 +6,13 @@ use first_pass_items::item::BlockQuoteKind;
 use first_pass_scan::line_start::{LineStart, scan_listitem};
 use std::alloc::AllocError;
 
-/// Makes a call for a marker or a line ending, and appends the number of bytes that it consumed. Returns `false` for
-/// any other call.
+/// Makes a call for a marker or a line ending, and appends the number of bytes that were consumed. The first argument
+/// is the indent; the second is a number of columns that are taken before the call, so that a tab can owe columns.
+/// Returns `false` for any other call.
 pub fn answer_markers(call: &Call<'_>, answer: &mut Answer) -> Result<bool, AllocError> {
     let mut line = LineStart::new(call.text.as_bytes());
     let indent = call.given.number(0).min(3);
+    let _ = line.scan_space_upto(call.given.number(1));
     match call.name {
         "scan_list_marker_with_indent" => {
             append_marker(line.scan_list_marker_with_indent(indent), answer)?
