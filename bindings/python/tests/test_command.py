@@ -167,7 +167,8 @@ class TreeTest(CommandTest):
     @unittest.skipUnless(texts.tree_program(), "the program tree is not built: FIRST_PASS_TREE names it")
     def test_lines_of_the_program(self):
         text = b"# a {#b}\n\n| c |\n|---|\n\n[d]: /e 'f'\n\n[^g]: h\n"
-        wanted = subprocess.run([texts.tree_program(), "65534"], input=text, stdout=subprocess.PIPE, check=True).stdout
+        words = [texts.tree_program(), str(texts.ALL_OPTIONS)]
+        wanted = subprocess.run(words, input=text, stdout=subprocess.PIPE, check=True).stdout
         self.assertEqual(run("tree", "-o", "all", given=text).stdout, wanted)
 
 

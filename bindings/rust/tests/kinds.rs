@@ -109,9 +109,9 @@ fn tables() {
     assert!(alignments.iter().eq(wanted));
     assert_eq!((alignments.get(2), alignments.get(4)), (Some(Alignment::Center), None));
     assert_eq!(format!("{alignments:?}"), "[None, Left, Center, Right]");
-    let names: Vec<_> =
-        tree.root().children().flat_map(|it| it.children()).map(|it| it.body().name()).collect();
-    assert_eq!(names, ["TableHead", "TableRow"]);
+    let rows: Vec<_> =
+        tree.root().children().flat_map(|it| it.children()).map(|it| it.body()).collect();
+    assert_eq!(rows, [Body::TableHead, Body::TableRow]);
     let cells = tree.nodes().filter(|node| node.body() == Body::TableCell).count();
     assert_eq!(cells, 8);
 }
