@@ -7,7 +7,7 @@ ghost use Rattle.first_pass_lines.specs.Rest.{next_column, after_columns, indent
 ghost use Rattle.first_pass_scan.specs.Blanks.{without_owed, past_blank};
 ghost use Rattle.first_pass_scan.specs.LeafLines.{hrule_len};
 ghost use Rattle.first_pass_scan.specs.Markers.{list_marker, content_indent as content_after, after_marker, after_colon, item_of, listitem, definition_of, task_box, task_of, past_tag};
-ghost use Rattle.std.specs.Prelude.{◌≡◌, ◌≤◌, ◌+◌, ◌<◌, ◌^◌, ◌==◌, min, nat_le, not, length, drop, is_some, IfSome, MatchOption, if◌then◌else◌, true, false};
+ghost use Rattle.std.specs.Prelude.{◌≡◌, ◌≤◌, ◌+◌, ◌<◌, ◌^◌, ◌==◌, ◌&&◌, min, nat_le, not, length, drop, is_some, IfSome, MatchOption, if◌then◌else◌, true, false};
 
 use crate::leaf_scan::{scan_hrule, scan_rule_free};
 use crate::markers::{scan_list_marker, scan_tag_line, scan_task_box};
@@ -113,21 +113,23 @@ impl<'a> LineStart<'a> {
         scan_eol(rest_of(self.bytes, self.at)).is_some()
     }
 
-    /// Returns `true` only if no column is owed and the next byte is an ASCII letter or a non-ASCII byte. Then there is
-    /// no white space here, and a block that begins here is a paragraph, unless later lines turn it into a table or a
+    /// Returns whether no column is owed and the next byte is an ASCII letter or a non-ASCII byte. Then there is no
+    /// white space here, and a block that begins here is a paragraph, unless later lines turn it into a table or a
     /// setext heading.
     #[inline(always)]
     pub fn is_at_plain(&self) -> bool
+        ensures value { result ≡ (self.now.owed == 0 && begins_plain self.now.left) }
         ensures owed { result ≡ true → self.now.owed ≡ 0 }
         ensures plain { result ≡ true → begins_plain self.now.left ≡ true }
     {
         self.owed == 0 && is_plain_front(rest_of(self.bytes, self.at))
     }
 
-    /// Returns `true` only if no column is owed, and no indentation, list item or block quote can begin with the next
-    /// byte.
+    /// Returns whether no column is owed, a byte is left, and no indentation, list item or block quote can begin with
+    /// that byte.
     #[inline(always)]
     pub fn is_at_inert(&self) -> bool
+        ensures value { result ≡ (self.now.owed == 0 && begins_inert self.now.left) }
         ensures owed { result ≡ true → self.now.owed ≡ 0 }
         ensures inert { result ≡ true → begins_inert self.now.left ≡ true }
     {
