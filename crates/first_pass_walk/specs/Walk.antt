@@ -107,9 +107,9 @@ Walks {F} {T} step marking (n ∷ ns) (ix, f) (answer, last) =
     (j : ℕ) × IsNextMarked marking.lut marking.bytes ix j × (g : F) × step f j (slice_index marking.bytes j) (ContinueAndSkip n) g
     × Walks step marking ns (j + n + 1, g) (answer, last)
 
--- the result of a walk from ix with the closure f: some sequence of calls leads to it (this project)
+-- the result of a walk from ix with the closure f, and the state of f after the last call: some sequence of calls leads
+-- to them (this project)
 pub record IsWalk {F T : Type 0} (step : F → ℕ → ℕ → LoopInstruction (Option T) → F → Type 0) (lut : List Bool) (bytes : List ℕ) (ix : ℕ) (f : F)
-    (answer : ℕ × Option T) : Type 0 where
+    (answer : ℕ × Option T) (last : F) : Type 0 where
   pub skips : List ℕ
-  pub last : F
   pub walk : Walks step (record { lut = lut; bytes = bytes }) skips (ix, f) (answer, last)

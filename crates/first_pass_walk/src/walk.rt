@@ -155,7 +155,7 @@ fn word_stops(bytes: &[u8], at: usize) -> u64
 /// Calls the closure at marked bytes of `bytes`, in order, with the offset and the byte. The first call is at the first
 /// marked byte from the offset `ix` on. Each later call is at the first marked byte after those that the previous call
 /// skips. Returns the number and the value with which a call breaks. Returns the length and `None` if no marked byte is
-/// left, or if a call skips past the end. CommonMark 6.
+/// left, or if a call skips past the end. No other call is made. CommonMark 6.
 pub fn iterate_special_bytes<F, T>(
     lut: &[bool; 256],
     bytes: &[u8],
@@ -165,7 +165,23 @@ pub fn iterate_special_bytes<F, T>(
 where
     F: FnMut(usize, u8) -> LoopInstruction<Option<T>> + Drop,
     requires { F.IsAlwaysCallable callback }
-    ensures { IsWalk (λ f k b i g. F.step f k b i g) lut.now bytes.now ix callback result }
+    ensures { (last : F) × IsWalk (λ f k b i g. F.step f k b i g) lut.now bytes.now ix callback result last }
+{
+    walk_special_bytes(lut, bytes, ix, &mut callback)
+}
+
+/// Makes the same calls as `iterate_special_bytes`, and returns the same, but borrows the closure. Afterwards the closure
+/// is in the state after exactly these calls. pulldown-cmark has no such function.
+pub fn walk_special_bytes<F, T>(
+    lut: &[bool; 256],
+    bytes: &[u8],
+    ix: usize,
+    callback: &mut F,
+) -> (usize, Option<T>)
+where
+    F: FnMut(usize, u8) -> LoopInstruction<Option<T>>,
+    requires { F.IsAlwaysCallable callback.old }
+    ensures { IsWalk (λ f k b i g. F.step f k b i g) lut.now bytes.now ix callback.old result callback.new }
 {
     let mut from = ix;
     while let Some(at) = next_special(lut, bytes, from) {
