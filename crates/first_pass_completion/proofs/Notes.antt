@@ -20,126 +20,129 @@ no_definition : (closed : Closed) → is_after_definition (last_plain closed) �
 no_definition OtherClosed = refl
 no_definition closed = refl
 
-run_by : (run t u : Bool) → u ≡ false → (run && not (t && u)) ≡ run
-run_by false t u h = refl
-run_by true false u h = refl
-run_by true true u h = ap not h
+run_by : (run begins follows : Bool) → follows ≡ false → (run && not (begins && follows)) ≡ run
+run_by false begins follows is_false = refl
+run_by true false follows is_false = refl
+run_by true true follows is_false = ap not is_false
 
 -- for a sequence that begins with a block, blank lines before it matter only as the gap of that block
-record IsNoted (quoted run : Bool) (closed : Closed) (s : Skeleton) : Type 0 where
-  pub items : (k e : ℕ) (nodes : List (ℕ × Item))
-      → rendered k e nodes (NoList closed) (rows_of quoted (stands_after (last_plain closed) run) e s)
-      ≡ rendered k e nodes (NoList closed) (rows_of quoted (stands_after (last_plain closed) false) e s)
-  pub gaps : (e : ℕ) → any_gap (rows_beyond (NoList closed) (rows_of quoted (stands_after (last_plain closed) run) e s))
-      ≡ (run || any_gap (rows_beyond (NoList closed) (rows_of quoted (stands_after (last_plain closed) false) e s)))
+record IsNoted (quoted run : Bool) (closed : Closed) (blocks : Skeleton) : Type 0 where
+  pub items : (depth last : ℕ) (nodes : List (ℕ × Item))
+      → rendered depth last nodes (NoList closed) (rows_of quoted (stands_after (last_plain closed) run) last blocks)
+      ≡ rendered depth last nodes (NoList closed) (rows_of quoted (stands_after (last_plain closed) false) last blocks)
+  pub gaps : (last : ℕ) → any_gap (rows_beyond (NoList closed) (rows_of quoted (stands_after (last_plain closed) run) last blocks))
+      ≡ (run || any_gap (rows_beyond (NoList closed) (rows_of quoted (stands_after (last_plain closed) false) last blocks)))
 
-leaf_noted : (quoted run : Bool) (closed : Closed) (b : LeafBlock) (next : Skeleton) → FlatBlock b × OwnParagraph b
-    → IsNoted quoted run closed (Then (Block b) next)
+leaf_noted : (quoted run : Bool) (closed : Closed) (leaf : LeafBlock) (next : Skeleton) → FlatBlock leaf × OwnParagraph leaf
+    → IsNoted quoted run closed (Then (Block leaf) next)
 unfolding rows_of
-leaf_noted quoted run closed b next own =
+leaf_noted quoted run closed leaf next own =
     let before : Before = stands_after (last_plain closed) run in
-    let r : ℕ → Rows = λ e. rows_of quoted (after_block before b) e next in
-    let gap : gap_before before b ≡ run = run_by run (begins_paragraph b.items) (is_after_definition (last_plain closed)) (no_definition closed) in
+    let rows : ℕ → Rows = λ last. rows_of quoted (after_block before leaf) last next in
+    let added = λ (noted : Bool) (depth last : ℕ) (nodes : List (ℕ × Item)). leaf_added depth last nodes closed leaf noted (rows last) own in
+    let gap : gap_before before leaf ≡ run = run_by run (begins_paragraph leaf.items) (is_after_definition (last_plain closed)) (no_definition closed) in
     record {
-      items = λ k e nodes. rw gap ((leaf_added k e nodes closed b run (r e) own).0 ∙ sym (leaf_added k e nodes closed b false (r e) own).0);
-      gaps = λ e. rw gap ((leaf_added 0 e [] closed b run (r e) own).1 ∙ ap (λ z. run || z) (sym (leaf_added 0 e [] closed b false (r e) own).1));
+      items = λ depth last nodes. rw gap ((added run depth last nodes).0 ∙ sym (added false depth last nodes).0);
+      gaps = λ last. rw gap ((added run 0 last []).1 ∙ ap (λ later. run || later) (sym (added false 0 last []).1));
     }
 
-container_noted : (opener : Opener) (line start e at : ℕ) (run : Bool) (inner next : Rows)
-    → (let rows : Bool → Rows = λ gap. container_row at opener (row_of (record { opener = opener; line = line; start = start }) e gap) inner next in
-    ((k : ℕ) → items_of k false (rows run) ≡ items_of k false (rows false)) × (any_gap (rows run) ≡ (run || any_gap (rows false))))
+container_noted : (opener : Opener) (line start stop last : ℕ) (run : Bool) (inner next : Rows)
+    → (let rows : Bool → Rows = λ gap. container_row last opener (row_of (record { opener = opener; line = line; start = start }) stop gap) inner next in
+    ((depth : ℕ) → items_of depth false (rows run) ≡ items_of depth false (rows false)) × (any_gap (rows run) ≡ (run || any_gap (rows false))))
 unfolding items_of any_gap
-container_noted (QuoteMarker kind) line start e at run inner next = (λ k. refl, refl)
-container_noted o line start e at run inner next = (λ k. refl, refl)
+container_noted (QuoteMarker kind) line start stop last run inner next = (λ depth. refl, refl)
+container_noted opener line start stop last run inner next = (λ depth. refl, refl)
 
-container_apart : (last : ℕ) (o : Opener) (line start e : ℕ) (gap : Bool) (inner next : Rows) → is_definition o ≡ false
-    → definitions_first (container_row last o (row_of (record { opener = o; line = line; start = start }) e gap) inner next) ≡ None
+container_apart : (last : ℕ) (opener : Opener) (line start stop : ℕ) (gap : Bool) (inner next : Rows) → is_definition opener ≡ false
+    → definitions_first (container_row last opener (row_of (record { opener = opener; line = line; start = start }) stop gap) inner next) ≡ None
 unfolding definitions_first
-container_apart last (DefinitionMarker columns) line start e gap inner next other = absurd (true≢false other)
-container_apart last o line start e gap inner next other = refl
+container_apart last (DefinitionMarker columns) line start stop gap inner next other = absurd (true≢false other)
+container_apart last opener line start stop gap inner next other = refl
 
-node_noted : (quoted run : Bool) (closed : Closed) (head : Head) (e : ℕ) (kids next : Skeleton) → is_definition head.opener ≡ false
-    → IsNoted quoted run closed (Node head e kids next)
+node_noted : (quoted run : Bool) (closed : Closed) (head : Head) (stop : ℕ) (kids next : Skeleton) → is_definition head.opener ≡ false
+    → IsNoted quoted run closed (Node head stop kids next)
 unfolding rows_of
-node_noted quoted run closed head e kids next other =
-    let all : Bool → ℕ → Rows = λ gap at. rows_of quoted (stands_after (last_plain closed) gap) at (Node head e kids next) in
-    let none = λ (gap : Bool) (k at : ℕ) (nodes : List (ℕ × Item)).
-    beside_all k at nodes closed (all gap at) (container_apart at head.opener head.line head.start e gap _ _ other) in
+node_noted quoted run closed head stop kids next other =
+    let all : Bool → ℕ → Rows = λ gap last. rows_of quoted (stands_after (last_plain closed) gap) last (Node head stop kids next) in
+    let none = λ (gap : Bool) (depth last : ℕ) (nodes : List (ℕ × Item)).
+    beside_all depth last nodes closed (all gap last) (container_apart last head.opener head.line head.start stop gap _ _ other) in
     record {
-      items = λ k at nodes. (none run k at nodes).0
-          ∙ ap (λ z. nodes ++ z) ((container_noted head.opener head.line head.start e at run _ _).0 k)
-          ∙ sym (none false k at nodes).0;
-      gaps = λ at. ap any_gap (none run 0 at []).1
-          ∙ (container_noted head.opener head.line head.start e at run _ _).1
-          ∙ ap (λ z. run || any_gap z) (sym (none false 0 at []).1);
+      items = λ depth last nodes. (none run depth last nodes).0
+          ∙ ap (λ added. nodes ++ added) ((container_noted head.opener head.line head.start stop last run _ _).0 depth)
+          ∙ sym (none false depth last nodes).0;
+      gaps = λ last. ap any_gap (none run 0 last []).1
+          ∙ (container_noted head.opener head.line head.start stop last run _ _).1
+          ∙ ap (λ added. run || any_gap added) (sym (none false 0 last []).1);
     }
 
-is_noted : (quoted run : Bool) (closed : Closed) (s : Skeleton) → FirstIsOther s
-    → IsNoted quoted run closed s × SameAfter (stands_after (last_plain closed) run) (stands_after (last_plain closed) false) s
-is_noted quoted run closed (Then (Block b) next) other = (leaf_noted quoted run closed b next other, refl)
-is_noted quoted run closed (Node head e kids next) other = (node_noted quoted run closed head e kids next other, tt)
-is_noted quoted run closed s other = absurd other
+is_noted : (quoted run : Bool) (closed : Closed) (blocks : Skeleton) → FirstIsOther blocks
+    → IsNoted quoted run closed blocks × SameAfter (stands_after (last_plain closed) run) (stands_after (last_plain closed) false) blocks
+is_noted quoted run closed (Then (Block leaf) next) other = (leaf_noted quoted run closed leaf next other, refl)
+is_noted quoted run closed (Node head stop kids next) other = (node_noted quoted run closed head stop kids next other, tt)
+is_noted quoted run closed blocks other = absurd other
 
 plain_in : (gap : Bool) (frames : List Frame) → IsPlain frames → IsPlain (loosened_in gap frames)
 plain_in gap (InContainer c ∷ frames) plain = plain
 plain_in gap frames plain = plain
 
 plain-loosened : (gap : Bool) (frames : List Frame) → IsPlain frames → IsPlain (loosened gap frames)
-plain-loosened gap frames h = subst IsPlain (sym (plain_loosened gap frames h)) h
+plain-loosened gap frames plain = subst IsPlain (sym (plain_loosened gap frames plain)) plain
 
-stands-loosened : (gap : Bool) (c : Container) (frames : List Frame) → StandsIn c frames → StandsIn c (loosened gap frames)
-stands-loosened gap (BlockQuote kind) frames h = plain-loosened gap frames h
-stands-loosened gap (FootnoteDefinition columns) frames h = plain-loosened gap frames h
-stands-loosened gap (ListItem columns) (InDefinitions loose ∷ frames) h = absurd h
-stands-loosened gap (Definition columns) (InList byte loose ∷ frames) h = absurd h
-stands-loosened gap c frames h = h
+stands-loosened : (gap : Bool) (container : Container) (frames : List Frame) → StandsIn container frames → StandsIn container (loosened gap frames)
+stands-loosened gap (BlockQuote kind) frames stands = plain-loosened gap frames stands
+stands-loosened gap (FootnoteDefinition columns) frames stands = plain-loosened gap frames stands
+stands-loosened gap (ListItem columns) (InDefinitions loose ∷ frames) stands = absurd stands
+stands-loosened gap (Definition columns) (InList byte loose ∷ frames) stands = absurd stands
+stands-loosened gap container frames stands = stands
 
 shaped-loosened : (gap : Bool) (frames : List Frame) → IsShaped frames → IsShaped (loosened gap frames)
-shaped-loosened gap (InContainer c ∷ frames) h = h
-shaped-loosened gap frames h = h
+shaped-loosened gap (InContainer container ∷ frames) shaped = shaped
+shaped-loosened gap frames shaped = shaped
 
 shaped-loosened_in : (gap : Bool) (frames : List Frame) → IsShaped frames → IsShaped (loosened_in gap frames)
-shaped-loosened_in gap [] h = h
-shaped-loosened_in gap (InContainer c ∷ frames) h = (stands-loosened gap c frames h.0, shaped-loosened gap frames h.1)
-shaped-loosened_in gap (InList byte loose ∷ frames) h = (plain-loosened gap frames h.0, shaped-loosened gap frames h.1)
-shaped-loosened_in gap (InDefinitions loose ∷ frames) h = (plain-loosened gap frames h.0, shaped-loosened gap frames h.1)
+shaped-loosened_in gap [] shaped = shaped
+shaped-loosened_in gap (InContainer container ∷ frames) shaped = (stands-loosened gap container frames shaped.0, shaped-loosened gap frames shaped.1)
+shaped-loosened_in gap (InList byte loose ∷ frames) shaped = (plain-loosened gap frames shaped.0, shaped-loosened gap frames shaped.1)
+shaped-loosened_in gap (InDefinitions loose ∷ frames) shaped = (plain-loosened gap frames shaped.0, shaped-loosened gap frames shaped.1)
 
 -- a gap that is noted before a block that is no definition
-note_step : (d : Document) (w : OpenNodes) (t : Tail) (b : OpensAtPlace d (lvl w.frames t))
-    → IsPlain w.frames → OpensBlock b.opening → opens_definition b.opening ≡ false
-    → IsStep d (reading_at w t (Inside b.place) b.lines)
-    (reading_at (record w { frames = loosened_in t.run w.frames }) (tail t.closed false) (Inside b.place) b.lines)
-note_step d w t b plain block other forest tables fin =
-    let path : List Container = containers_of w.frames in
-    let q : Bool = in_quote path in
-    let here : Before = stands_after (last_plain t.closed) t.run in
-    let now : Before = stands_after (last_plain t.closed) false in
-    let from : Continues = Inside b.place in
-    let is : before_of w.frames t ≡ here = plain_before t w.frames plain in
-    let opens : Opens d (level path here) b.place b.lines b.opening = subst (λ z. Opens d (level path z) b.place b.lines b.opening) is b.opens in
-    let alike : OpensAlike d path here now b.place = takes_alike d path here now b.place refl in
-    let loosened : OpenNodes = record w { frames = loosened_in t.run w.frames } in
-    subst (λ z. IsCompleted d (reading w (NoList t.closed) z from b.lines) forest tables) (sym is)
-    (extend d (reading w (NoList t.closed) here from b.lines) (reading w (NoList t.closed) now from b.lines) t.run (λ s. s) (record {
+note_step : (document : Document) (opened : OpenNodes) (ending : Tail) (block : OpensAtPlace document (lvl opened.frames ending))
+    → IsPlain opened.frames → OpensBlock block.opening → opens_definition block.opening ≡ false
+    → IsStep document (reading_at opened ending (Inside block.place) block.lines)
+    (reading_at (record opened { frames = loosened_in ending.run opened.frames }) (tail ending.closed false) (Inside block.place) block.lines)
+note_step document opened ending block plain is_block other forest tables fin =
+    let path : List Container = containers_of opened.frames in
+    let quoted : Bool = in_quote path in
+    let here : Before = stands_after (last_plain ending.closed) ending.run in
+    let now : Before = stands_after (last_plain ending.closed) false in
+    let inside : Continues = Inside block.place in
+    let stands : before_of opened.frames ending ≡ here = plain_before ending opened.frames plain in
+    let opens : Opens document (level path here) block.place block.lines block.opening =
+    subst (λ before. Opens document (level path before) block.place block.lines block.opening) stands block.opens in
+    let alike : OpensAlike document path here now block.place = takes_alike document path here now block.place refl in
+    let loosened : OpenNodes = record opened { frames = loosened_in ending.run opened.frames } in
+    subst (λ before. IsCompleted document (reading opened (NoList ending.closed) before inside block.lines) forest tables) (sym stands)
+    (extend document (reading opened (NoList ending.closed) here inside block.lines) (reading opened (NoList ending.closed) now inside block.lines)
+    ending.run (λ blocks. blocks) (record {
       plain = plain;
-      ends = λ path mid. refl;
-      adds = λ s mid seq.
-          let noted = is_noted q t.run t.closed s (first_is_other d b.opening s block other
-          (known_first d path now b.place b.lines mid b.opening s b.stays (alike.to b.lines b.opening opens) seq)) in
+      ends = λ path rest. refl;
+      adds = λ blocks rest seq.
+          let noted = is_noted quoted ending.run ending.closed blocks (first_is_other document block.opening blocks is_block other
+          (known_first document path now block.place block.lines rest block.opening blocks block.stays (alike.to block.lines block.opening opens) seq)) in
           record {
-            seq = seq_moved d s path here now b.place b.lines mid alike noted.1 seq;
-            items = λ last is. noted.0.items (suc (length w.places)) last w.nodes;
-            counts = counts_moved q here now s noted.1;
+            seq = seq_moved document blocks path here now block.place block.lines rest alike noted.1 seq;
+            items = λ last ends. noted.0.items (suc (length opened.places)) last opened.nodes;
+            counts = counts_moved quoted here now blocks noted.1;
             gaps = noted.0.gaps;
           };
-      defines = λ s. refl;
+      defines = λ blocks. refl;
     }) forest tables
-    (subst (λ z. IsCompleted d (reading loosened (NoList t.closed) z from b.lines) forest tables)
-    (plain_before (tail t.closed false) loosened.frames (plain_in t.run w.frames plain)) fin))
+    (subst (λ before. IsCompleted document (reading loosened (NoList ending.closed) before inside block.lines) forest tables)
+    (plain_before (tail ending.closed false) loosened.frames (plain_in ending.run opened.frames plain)) fin))
 
 -- a gap is noted before a block that is no definition
-pub completes-note : (d : Document) (w : OpenNodes) (t : Tail) (b : OpensAtPlace d (lvl w.frames t))
-    → IsPlain w.frames → OpensBlock b.opening → opens_definition b.opening ≡ false
-    → CompletesFrom d w t (Inside b.place) b.lines
-    → CompletesFrom d (record w { frames = loosened_in t.run w.frames }) (tail t.closed false) (Inside b.place) b.lines
-completes-note d w t b plain block other k = search (stepped, note_step, shaped-loosened_in)
+pub completes-note : (document : Document) (opened : OpenNodes) (ending : Tail) (block : OpensAtPlace document (lvl opened.frames ending))
+    → IsPlain opened.frames → OpensBlock block.opening → opens_definition block.opening ≡ false
+    → CompletesFrom document opened ending (Inside block.place) block.lines
+    → CompletesFrom document (record opened { frames = loosened_in ending.run opened.frames }) (tail ending.closed false) (Inside block.place) block.lines
+completes-note document opened ending block plain is_block other completes = search (stepped, note_step, shaped-loosened_in)
