@@ -27,11 +27,11 @@ state_with tree begin_list_item blank = record { tree = tree; begin_list_item = 
 
 -- the state with another tree
 abbrev pub with_tree : PassState → Forest Item → PassState
-with_tree r tree = record r { tree = tree }
+with_tree state tree = record state { tree = tree }
 
 -- the state after something is added to the innermost open node: it records no empty item
 abbrev pub with_block : PassState → Forest Item → PassState
-with_block r tree = record r { tree = tree; begin_list_item = None }
+with_block state tree = record state { tree = tree; begin_list_item = None }
 
 -- a list at an index becomes loose, given the body there; any other node is unchanged
 abbrev pub loosened_by : Forest Item → TreeIndex → Option ItemBody → Forest Item
@@ -82,27 +82,27 @@ is_footnote _ = false
 -- body of the node. If the node is a tight list, the paragraphs directly in its items become tight. If it is an item or
 -- a definition, the state records no empty item.
 abbrev pub popped_by : PassState → Forest Item → TreeIndex → Option ItemBody → PassState
-popped_by r f ix (Some (ListBody flags byte number)) = record r { tree = if bit_and flags.0 1 == 1 then tight_items f ix else f }
-popped_by r f ix (Some (DefinitionList flags)) = record r { tree = if bit_and flags.0 1 == 1 then tight_items f ix else f }
-popped_by r f ix (Some (ListItemBody columns)) = record r { tree = f; begin_list_item = None }
-popped_by r f ix (Some (DefinitionListDefinition columns)) = record r { tree = f; begin_list_item = None }
-popped_by r f ix _ = record r { tree = f }
+popped_by state f ix (Some (ListBody flags byte number)) = record state { tree = if bit_and flags.0 1 == 1 then tight_items f ix else f }
+popped_by state f ix (Some (DefinitionList flags)) = record state { tree = if bit_and flags.0 1 == 1 then tight_items f ix else f }
+popped_by state f ix (Some (ListItemBody columns)) = record state { tree = f; begin_list_item = None }
+popped_by state f ix (Some (DefinitionListDefinition columns)) = record state { tree = f; begin_list_item = None }
+popped_by state f ix _ = record state { tree = f }
 
 -- the innermost open node, at the first of these indices, is closed at an offset
 abbrev pub popped_at : ℕ → PassState → List TreeIndex → PassState
-popped_at e r [] = r
-popped_at e r (ix ∷ rest) = popped_by r (closed_by r.tree e (ix ∷ rest)) ix (body_at (closed_by r.tree e (ix ∷ rest)).nodes ix.0)
+popped_at e state [] = state
+popped_at e state (ix ∷ rest) = popped_by state (closed_by state.tree e (ix ∷ rest)) ix (body_at (closed_by state.tree e (ix ∷ rest)).nodes ix.0)
 
 -- the last child of the list that was just closed is moved out of it; the child was the current node before the
 -- closing
 abbrev pub current_moved : PassState → Option TreeIndex → PassState
-current_moved r None = r
-current_moved r (Some ix) = with_tree r (moved_from r.tree ix.0)
+current_moved state None = state
+current_moved state (Some ix) = with_tree state (moved_from state.tree ix.0)
 
 -- a definition list, the innermost open node, is closed at an offset, and its last child, the current node, is moved
 -- out of it (this project)
 unfoldable pub definitions_closed : ℕ → PassState → PassState
-definitions_closed e r = current_moved (popped_at e r r.tree.spine) r.tree.current
+definitions_closed e state = current_moved (popped_at e state state.tree.spine) state.tree.current
 
 -- the end that is recorded in the innermost open node; 0 at the top level
 abbrev pub top_end : Forest Item → ℕ
@@ -122,40 +122,41 @@ possible_title f = option_and_then (λ ix. title_by (top_body f) ix (body_at f.n
 -- end of its last definition, which `title_begun` has recorded in the list. The possible title becomes a paragraph
 -- after the list (this project).
 abbrev pub title_closed : PassState → TreeIndex → PassState
-title_closed r title = definitions_closed (top_end r.tree) (with_tree r (with_body_at r.tree title ParagraphBody))
+title_closed state title = definitions_closed (top_end state.tree) (with_tree state (with_body_at state.tree title ParagraphBody))
 
 -- the same, if there is a possible title; otherwise the innermost open node is closed at an offset
 abbrev pub popped_after : ℕ → PassState → Option TreeIndex → PassState
-popped_after e r None = popped_at e r r.tree.spine
-popped_after e r (Some title) = title_closed r title
+popped_after e state None = popped_at e state state.tree.spine
+popped_after e state (Some title) = title_closed state title
 
 -- The innermost open node is closed at an offset. But if it is a definition list whose last child is a possible title,
 -- it is closed at the end of its last definition.
 unfoldable pub popped : ℕ → PassState → PassState
-popped e r = popped_after e r (possible_title r.tree)
+popped e state = popped_after e state (possible_title state.tree)
 
 -- The innermost open node is closed, if it is an empty item or definition and a counting blank line is directly
 -- before. It ends at the offset that is given, which is after the line of its marker. In any case, the state then
 -- records no empty item.
 abbrev pub empty_item_closed_by : PassState → Option ℕ → PassState
-empty_item_closed_by r None = r
-empty_item_closed_by r (Some e) = record (if r.blank && is_item (top_body r.tree) then popped e r else r) { begin_list_item = None }
+empty_item_closed_by state None = state
+empty_item_closed_by state (Some e) =
+    record (if state.blank && is_item (top_body state.tree) then popped e state else state) { begin_list_item = None }
 
 -- the same with the offset that the state records
 unfoldable pub empty_item_closed : PassState → PassState
-empty_item_closed r = empty_item_closed_by r r.begin_list_item
+empty_item_closed state = empty_item_closed_by state state.begin_list_item
 
 -- the innermost open node is closed at an offset, if it is a list
 abbrev pub list_closed : ℕ → PassState → PassState
-list_closed e r = if is_list (top_body r.tree) then popped e r else r
+list_closed e state = if is_list (top_body state.tree) then popped e state else state
 
 -- the innermost open node is closed at an offset, if it is a footnote definition
 abbrev pub footnote_left : ℕ → PassState → PassState
-footnote_left e r = if is_footnote (top_body r.tree) then popped e r else r
+footnote_left e state = if is_footnote (top_body state.tree) then popped e state else state
 
 -- the same, if a counting blank line is directly before (used only for footnotes in the old form)
 abbrev pub old_footnote_finished : ℕ → PassState → PassState
-old_footnote_finished e r = if r.blank then footnote_left e r else r
+old_footnote_finished e state = if state.blank then footnote_left e state else state
 
 -- the second of these open nodes, innermost first, becomes loose, if it is a list
 abbrev pub gap_tree : Forest Item → List TreeIndex → Forest Item
@@ -166,20 +167,20 @@ gap_tree f (ix ∷ outer ∷ rest) = loosened_at f outer
 -- If a counting blank line is before a block, and the block is directly in an item, the list of that item becomes
 -- loose. The blank line then no longer counts.
 abbrev pub gap_marked : PassState → PassState
-gap_marked r = if r.blank then record r { tree = gap_tree r.tree r.tree.spine; blank = false } else r
+gap_marked state = if state.blank then record state { tree = gap_tree state.tree state.tree.spine; blank = false } else state
 
 -- The current node, right after a definition, turned out to be a heading or a table. The definition list is closed at
 -- an offset, and the current node is moved out of it. Suppose that a counting blank line is before the current node,
 -- and that the definition list is directly in an item of another list. Then that other list becomes loose
 -- (this project).
 unfoldable pub definitions_left : ℕ → PassState → PassState
-definitions_left e r = gap_marked (definitions_closed e r)
+definitions_left e state = gap_marked (definitions_closed e state)
 
 -- The state when a new block is added. First an empty item is closed. If the innermost open node is then a list, it is
 -- closed at an offset. If a counting blank line is before a block directly in an item, the list of that item becomes
 -- loose.
 unfoldable pub list_finished : ℕ → PassState → PassState
-list_finished e r = gap_marked (list_closed e (empty_item_closed r))
+list_finished e state = gap_marked (list_closed e (empty_item_closed state))
 
 -- the innermost open node becomes loose, if it is a list
 abbrev pub loosened_top : Forest Item → List TreeIndex → Forest Item
@@ -189,12 +190,12 @@ loosened_top f (ix ∷ rest) = loosened_at f ix
 -- The innermost open node, a list, continues. A counting blank line directly before makes it loose, and then no longer
 -- counts.
 abbrev pub list_kept : PassState → PassState
-list_kept r = if r.blank then record r { tree = loosened_top r.tree r.tree.spine; blank = false } else r
+list_kept state = if state.blank then record state { tree = loosened_top state.tree state.tree.spine; blank = false } else state
 
 -- a container or a list with this body is opened at an offset
 abbrev pub begun : ℕ → ItemBody → PassState → PassState
-begun start body r =
-    record r { tree = pushed (appended r.tree (record { start = start; «end» = 0; body = body })) (record { 0 = length r.tree.nodes }) }
+begun start body state =
+    record state { tree = pushed (appended state.tree (record { start = start; «end» = 0; body = body })) (record { 0 = length state.tree.nodes }) }
 
 -- the tree with another body of the node at an index, if one is given
 abbrev pub with_current : Forest Item → ItemBody → Option TreeIndex → Forest Item
@@ -205,7 +206,8 @@ with_current f body (Some c) = with_body_at f c body
 -- definition list, records an offset, which is the end of that definition. A blank line before the paragraph no longer
 -- counts (this project).
 unfoldable pub title_begun : ℕ → PassState → PassState
-title_begun e r = record r { tree = with_end (with_current r.tree MaybeDefinitionListTitle r.tree.current) e (slice_get r.tree.spine 0); blank = false }
+title_begun e state =
+    record state { tree = with_end (with_current state.tree MaybeDefinitionListTitle state.tree.current) e (slice_get state.tree.spine 0); blank = false }
 
 -- A `:` may begin a definition after the current node. Given are the bodies of the innermost open node and of the
 -- current node. After a paragraph it may, unless the innermost open node is a list. If that node is a definition list,
@@ -248,22 +250,24 @@ definitions_opened f (Some c) = definitions_at f c (item_at f c)
 -- A definition with an indent is opened at an offset, in the open definition list or in a new one. A counting blank
 -- line before the definition makes that list loose (this project).
 unfoldable pub definition_begun : ℕ → ℕ → PassState → PassState
-definition_begun start indent r = begun start (DefinitionListDefinition indent) (list_kept (with_tree r (definitions_opened r.tree r.tree.current)))
+definition_begun start indent state =
+    begun start (DefinitionListDefinition indent) (list_kept (with_tree state (definitions_opened state.tree state.tree.current)))
 
 -- A footnote definition with its label is opened at an offset. Before that, an empty item is closed. If the innermost
 -- open node is then a list, it is closed at the offset. If the innermost open node is then a footnote definition, it
 -- is closed there too. If a counting blank line is before a footnote definition directly in an item, the list of that
 -- item becomes loose (this project).
 unfoldable pub footnote_begun : ℕ → CowIndex → PassState → PassState
-footnote_begun start label r = begun start (FootnoteDefinitionBody label) (gap_marked (footnote_left start (list_closed start (empty_item_closed r))))
+footnote_begun start label state =
+    begun start (FootnoteDefinitionBody label) (gap_marked (footnote_left start (list_closed start (empty_item_closed state))))
 
 -- The state in which an item with this byte and number can be opened at an offset. First an empty item is closed. If
 -- the innermost open node is then a list with this byte, it continues. Otherwise what a new block ends is closed, and
 -- a new list is opened.
 unfoldable pub list_continued : ℕ → ℕ → ℕ → PassState → PassState
-list_continued start byte number r =
-    let s = empty_item_closed r in
-    if is_list_of byte (top_body s.tree) then list_kept s else begun start (ListBody (list_flags true) byte number) (list_finished start s)
+list_continued start byte number state =
+    let next = empty_item_closed state in
+    if is_list_of byte (top_body next.tree) then list_kept next else begun start (ListBody (list_flags true) byte number) (list_finished start next)
 
 -- the innermost open node, an item, takes only blank lines from now on: its indent is 0
 abbrev pub item_without_indent : Forest Item → List TreeIndex → Forest Item
@@ -278,18 +282,18 @@ definition_without_indent f (ix ∷ rest) = with_body_at f ix (DefinitionListDef
 -- A blank line is read, given the body of the innermost open node. In a block quote the line does not count, and
 -- nothing changes. Otherwise it counts, and an empty item or definition takes only blank lines from then on.
 abbrev pub blank_read_by : PassState → Option ItemBody → PassState
-blank_read_by r (Some (BlockQuoteBody kind)) = r
-blank_read_by r (Some (ListItemBody columns)) =
-    record r { tree = if is_some r.begin_list_item then item_without_indent r.tree r.tree.spine else r.tree; blank = true }
-blank_read_by r (Some (DefinitionListDefinition columns)) =
-    record r { tree = if is_some r.begin_list_item then definition_without_indent r.tree r.tree.spine else r.tree; blank = true }
-blank_read_by r _ = record r { blank = true }
+blank_read_by state (Some (BlockQuoteBody kind)) = state
+blank_read_by state (Some (ListItemBody columns)) =
+    record state { tree = if is_some state.begin_list_item then item_without_indent state.tree state.tree.spine else state.tree; blank = true }
+blank_read_by state (Some (DefinitionListDefinition columns)) =
+    record state { tree = if is_some state.begin_list_item then definition_without_indent state.tree state.tree.spine else state.tree; blank = true }
+blank_read_by state _ = record state { blank = true }
 
 -- the same for a state
 unfoldable pub blank_read : PassState → PassState
-blank_read r = blank_read_by r (top_body r.tree)
+blank_read state = blank_read_by state (top_body state.tree)
 
 -- If the innermost open node is a footnote definition in the old form, it is closed at the start of a line, after a
 -- counting blank line (this project).
 abbrev pub footnote_ended : Options → ℕ → PassState → PassState
-footnote_ended options e r = if gfm_footnotes options then r else old_footnote_finished e r
+footnote_ended options e state = if gfm_footnotes options then state else old_footnote_finished e state
