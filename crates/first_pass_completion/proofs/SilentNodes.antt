@@ -120,7 +120,7 @@ marks_from names depth (suc place) [] = refl
 marks_from names depth (suc place) (n ∷ nodes) = grind (arith, marks_from names depth place nodes)
 
 -- a list that is closed
-silent_flagged : (loose : Bool) (b : ItemBody) → ShowsNothing b → ShowsNothing (flagged loose b)
+pub silent_flagged : (loose : Bool) (b : ItemBody) → ShowsNothing b → ShowsNothing (flagged loose b)
 silent_flagged loose (ListBody flags byte number) h = λ names depth start end. refl
 silent_flagged loose (DefinitionList flags) h = λ names depth start end. refl
 silent_flagged loose b h = h

@@ -34,7 +34,7 @@ kept_nodes : (d : ℕ) (nodes : List (ℕ × Item)) → NoParagraph nodes → ma
 kept_nodes d [] h = refl
 kept_nodes d (n ∷ nodes) h = let a = kept_node d n h.0 in let b = kept_nodes d nodes h.1 in cc
 
-at_depth-flat : (k : ℕ) (items : List (ℕ × Item)) → NoParagraph items → NoParagraph (at_depth k items)
+pub at_depth-flat : (k : ℕ) (items : List (ℕ × Item)) → NoParagraph items → NoParagraph (at_depth k items)
 at_depth-flat k [] h = tt
 at_depth-flat k (x ∷ items) h = (h.0, at_depth-flat k items h.1)
 

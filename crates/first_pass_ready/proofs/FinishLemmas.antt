@@ -4,7 +4,7 @@ use Rattle.std.proofs.Common.{if◌then◌else◌, option_and_then, length, ◌+
 use Rattle.first_pass_grammar.proofs.Common.{option_map_or, Item, ItemBody, DefinitionList, ListFlags, TreeIndex, Forest, IsForest, with_body_at, body_at}
 use Rattle.first_pass_grammar.proofs.Common.{Place, Document, is_paragraph_body, Inside, Opening, Opens, Tables, list_flags, flagged, Closed}
 use Rattle.first_pass_grammar.proofs.Common.{OtherClosed, ParagraphAt, DefinitionClosed, TitleAt, Frame, InContainer, InList, InDefinitions, IsPlain}
-use Rattle.first_pass_grammar.proofs.Common.{StandsIn, ShowsNothing, SilentClosed, body-other, body-changed, Options, DefinitionListDefinition}
+use Rattle.first_pass_grammar.proofs.Common.{StandsIn, SilentClosed, body-other, body-changed, Options, DefinitionListDefinition}
 use Rattle.first_pass_grammar.proofs.Common.{MaybeDefinitionListTitle, Before, level, last_plain, cond_both, IsLastAt, IsOpenPath, depths, last-order}
 use Rattle.first_pass_items.specs.declared.item.ItemBody.TheVariants.{List as ListBody, Paragraph as ParagraphBody}
 use Rattle.first_pass_grammar.specs.declared.kind.Container.{Container}
@@ -18,7 +18,7 @@ use Rattle.first_pass_completion.proofs.Notes.{completes-note}
 use Rattle.first_pass_completion.proofs.States.{open_nodes}
 use Rattle.first_pass_completion.proofs.TitleNodes.{reflagged}
 use Rattle.first_pass_completion.proofs.Flags.{IsListAround, completes-reflag}
-use Rattle.first_pass_completion.proofs.SilentNodes.{from_modified}
+use Rattle.first_pass_completion.proofs.SilentNodes.{from_modified, silent_flagged}
 use Rattle.first_pass_lists.specs.Closing.{loosened_by, loosened_at, top_body, top_end, is_definition_list, is_list, empty_item_closed_by, empty_item_closed}
 use Rattle.first_pass_lists.specs.Closing.{list_closed, gap_tree, list_finished, gap_marked}
 use Rattle.first_pass_lists.specs.declared.state.PassState.{PassState}
@@ -210,11 +210,6 @@ loose_frame options f ix b flags frame is listed framed =
 -- a list that becomes loose is no paragraph
 flagged_no_paragraph : (b : ItemBody) (flags : ListFlags) → list_flags_of b ≡ Some flags → is_paragraph_body (flagged true b) ≡ false
 flagged_no_paragraph b flags h = grind (arith, h)
-
-silent_flagged : (loose : Bool) (b : ItemBody) → ShowsNothing b → ShowsNothing (flagged loose b)
-silent_flagged loose (ListBody flags list number) h = λ names depth start end. refl
-silent_flagged loose (DefinitionList flags) h = λ names depth start end. refl
-silent_flagged loose b h = h
 
 -- after that, a last child that has no part of a table in it still has none
 silent_reflagged : (nodes : List (ℕ × Item)) (o : ℕ) (loose : Bool) (closed : Closed) → SilentClosed nodes closed

@@ -16,7 +16,7 @@ use Rattle.first_pass_lists.specs.declared.state.PassState.{PassState}
 use Rattle.first_pass_ready.proofs.PopLemmas.{list_popped, list_spine}
 use Rattle.first_pass_ready.proofs.TitlePops.{definitions_closed_is, moved_current}
 use Rattle.first_pass_ready.proofs.StateLemmas.{popped_list}
-use Rattle.first_pass_completion.proofs.TitleNodes.{kept_node, shallower_at}
+use Rattle.first_pass_completion.proofs.TitleNodes.{at_depth-flat, kept_node, shallower_at}
 use Rattle.first_pass_ready.proofs.ClosedIn.{definitions_top}
 use Rattle.first_pass_lists.proofs.MovedLemmas.{tight_alike}
 use Rattle.first_pass_tree.proofs.Blocks.{forest-eq}
@@ -44,10 +44,6 @@ depth_front [] more i h = absurd (omega arith)
 depth_front (n ∷ nodes) more zero h = refl
 depth_front (n ∷ nodes) more (suc i) h = depth_front nodes more i (omega arith)
 
-flat_at : (k : ℕ) (items : List (ℕ × Item)) → NoParagraph items → NoParagraph (at_depth k items)
-flat_at k [] h = tt
-flat_at k (x ∷ items) h = (h.0, flat_at k items h.1)
-
 -- nodes one less deep from a place on
 moved_mid : (nodes more : List (ℕ × Item)) → map_from shallower (length nodes) (nodes ++ more) ≡ nodes ++ map shallower more
 moved_mid [] more = refl
@@ -61,7 +57,7 @@ module _ (f : Forest Item) (items : List (ℕ × Item)) (e : ℕ) (ix : TreeInde
   -- the nodes of the closed list, and the block that was read in it after them
   tight_by : (t : Bool) → (if t then tight_items (closed_by (added f items) e (ix ∷ rest)) ix else closed_by (added f items) e (ix ∷ rest)).nodes
       ≡ (if t then tight_items (closed_by f e (ix ∷ rest)) ix else closed_by f e (ix ∷ rest)).nodes ++ more
-  tight_by true = grind (arith, length-modify, modify-append, depth_front, at_append, flat_at)
+  tight_by true = grind (arith, length-modify, modify-append, depth_front, at_append, at_depth-flat)
   tight_by false = modify-append f.nodes more ix.0 _ low
 
   closed_length : length (list_popped f e ix rest flags).nodes ≡ length f.nodes
