@@ -1,6 +1,7 @@
 pub mod Destinations
 pub mod Escapes
 pub mod Footnotes
+pub mod Handlers
 pub mod Labels
 pub mod Parts
 pub mod PipeEscapes

@@ -1,12 +1,14 @@
 -- Link labels (CommonMark 6.3). Here an argument `text` has the bytes from an offset up to the end of the text;
 -- `label_at` takes those after a `[`.
 use Rattle.std.specs.Prelude.{◌≡◌, ◌≢◌, ◌⊎◌, ℕ, zero, suc, ◌+◌, ◌==◌, ◌&&◌, ◌||◌, not, Bool, List, [], ◌∷◌, map, take, drop, slice_index, Option, Some, None}
-use Rattle.std.specs.Prelude.{Ok, Err, Result, length, true, ◌<◌, IsUtf8, nat_lt, nat_le, if◌then◌else◌}
+use Rattle.std.specs.Prelude.{Ok, Err, Result, length, true, ◌<◌, IsUtf8, nat_lt, nat_le, if◌then◌else◌, IsSomeAnd, MatchOption}
 use Rattle.std.specs.Option.{option_map_or}
 use Rattle.std.specs.List.{list_any, count_by}
 use Rattle.std.specs.Borrow.{Bor}
 use Rattle.std.specs.Str.{IsCharBoundary}
 use Rattle.std.specs.declared.alloc.AllocError.{AllocError}
+use Rattle.first_pass_items.specs.declared.cow_str.CowStr.{CowStr}
+use Rattle.first_pass_items.specs.CowText.{text_of}
 use Rattle.first_pass_items.specs.Bytes.{space, left_bracket, right_bracket, ascii_end, least_lead}
 use Rattle.first_pass_lines.specs.Lines.{begins, is_white_or_line_end, is_line_end, ends_line}
 use Rattle.first_pass_links.specs.Escapes.{read_in}
@@ -115,3 +117,30 @@ pub record ErrsAfter (text : List ℕ) (at : ℕ) (post : Bor (List ℕ) → Res
 -- and the handler fails after a line ending (this project).
 abbrev pub CanErr : (List ℕ → Option ℕ) → Bool → List ℕ → (Bor (List ℕ) → Result (Option ℕ) AllocError → Type 0) → Type 0
 CanErr prefix in_table text post = IsRewritten prefix in_table text ⊎ (HasNoBracket prefix text × ((at : ℕ) × ErrsAfter text at post))
+
+-- the byte at the offset `at` ends a line, and the handler may return this answer for the bytes after it (this project)
+pub record AnswersAfter (text : List ℕ) (at : ℕ) (answer : Option ℕ) (post : Bor (List ℕ) → Result (Option ℕ) AllocError → Type 0) : Type 0 where
+  pub within : at < length text
+  pub line_end : ends_line (slice_index text at) (drop (at + 1) text) ≡ true
+  pub boundary : IsCharBoundary text (at + 1)
+  pub following : Bor (List ℕ)
+  pub past_is : following.now ≡ drop (at + 1) text
+  pub answers : post following (Ok answer)
+
+-- The result is the label under these prefixes, with the offset after its `]`. It is none exactly if there is no label
+-- under them (CommonMark 6.3).
+abbrev pub IsLabelUnder : (List ℕ → Option ℕ) → Bool → List ℕ → Option (ℕ × CowStr) → Type 0
+IsLabelUnder prefix in_table text answer =
+    MatchOption (label_at prefix in_table text) (answer ≡ None) (λ label. IsSomeAnd answer (λ found. (found.0 ≡ label.0) × (text_of found.1 ≡ label.1)))
+
+-- The result is the label under answers of the handler, which need not be the same for the same bytes. `asked` tells
+-- after which line endings the handler was asked, each at most once, and `prefix` gives what it answered there. Each
+-- other prefix with these answers gives the same label (this project).
+pub record ReadsLabel (text : List ℕ) (in_table : Bool) (post : Bor (List ℕ) → Result (Option ℕ) AllocError → Type 0) (answer : Option (ℕ × CowStr))
+    : Type 0 where
+  pub asked : ℕ → Bool
+  pub prefix : List ℕ → Option ℕ
+  pub allowed : (at : ℕ) → asked at ≡ true → AnswersAfter text at (prefix (drop (at + 1) text)) post
+  pub label : IsLabelUnder prefix in_table text answer
+  pub enough : (other : List ℕ → Option ℕ) → ((at : ℕ) → asked at ≡ true → other (drop (at + 1) text) ≡ prefix (drop (at + 1) text))
+      → label_at other in_table text ≡ label_at prefix in_table text

@@ -10,7 +10,7 @@ use Rattle.first_pass_lines.specs.Lines.{begins, is_white_or_line_end}
 use Rattle.first_pass_links.specs.Escapes.{begins_escape}
 use Rattle.first_pass_links.specs.Changes.{begins_pipe_escape}
 use Rattle.first_pass_links.specs.declared.label.Unit.{Unit}
-use Rattle.first_pass_links.specs.Labels.{AnswersWith, ErrsAfter, IsRewritten, begins_character, joined, bytes_of, label_len, label_at, as_read}
+use Rattle.first_pass_links.specs.Labels.{AnswersAfter, AnswersWith, ErrsAfter, IsRewritten, begins_character, joined, bytes_of, label_len, label_at, as_read}
 
 -- the bytes from one offset up to another (this project)
 abbrev pub part : List ℕ → ℕ → ℕ → List ℕ
@@ -118,12 +118,23 @@ pub record StopsByError (text : List ℕ) (at : ℕ) (post : Bor (List ℕ) → 
   pub run : (prefix : List ℕ → Option ℕ) → AnswersWith text prefix post → IsWhiteRun prefix text at next characters
   pub stops : ErrsAfter text next post
 
+-- A fact on prefixes holds under answers of the handler. `asked` tells after which line endings from one offset up to
+-- another it was asked, and `answers` what it answered. The fact holds for each `prefix` with these answers (this
+-- project).
+pub record UnderAnswers (text : List ℕ) (post : Bor (List ℕ) → Result (Option ℕ) AllocError → Type 0) (from upto : ℕ)
+    (Fact : (List ℕ → Option ℕ) → Type 0) : Type 0 where
+  pub asked : ℕ → Bool
+  pub answers : ℕ → Option ℕ
+  pub between : (at : ℕ) → asked at ≡ true → (from ≤ at) × (at < upto)
+  pub allowed : (at : ℕ) → asked at ≡ true → AnswersAfter text at (answers at) post
+  pub holds : (prefix : List ℕ → Option ℕ) → ((at : ℕ) → asked at ≡ true → prefix (drop (at + 1) text) ≡ answers at) → Fact prefix
+
 -- The result for a label is an offset and that of its `]`, or none if no label is there. The label as it is read is
 -- `written`, then the text from the first offset up to the `]`. If that offset is not 0, something changes (this project).
 pub record ReadsUnits (text : List ℕ) (in_table : Bool) (post : Bor (List ℕ) → Result (Option ℕ) AllocError → Type 0) (written : List ℕ)
     (answer : Option (ℕ × ℕ)) : Type 0 where
-  pub value : (prefix : List ℕ → Option ℕ) → AnswersWith text prefix post → MatchOption (label_at prefix in_table text) (answer ≡ None)
-      (λ label. IsSomeAnd answer (λ read. (read.1 + 1 ≡ label.0) × (written ++ part text read.0 read.1 ≡ label.1)))
+  pub value : UnderAnswers text post 0 (length text) (λ prefix. MatchOption (label_at prefix in_table text) (answer ≡ None)
+      (λ label. IsSomeAnd answer (λ read. (read.1 + 1 ≡ label.0) × (written ++ part text read.0 read.1 ≡ label.1))))
   pub closes : IfSome answer (λ read. (read.1 < length text) × (slice_index text read.1 ≡ right_bracket))
   pub lighter : IfSome answer (λ read. IsLighter text written read.0 read.1)
   pub changes : IfSome answer (λ read. 0 < read.0 → (prefix : List ℕ → Option ℕ) → AnswersWith text prefix post → IsRewritten prefix in_table text)

@@ -5,8 +5,8 @@ ghost use Rattle.first_pass_items.specs.Bytes.{backslash, space};
 ghost use Rattle.first_pass_items.specs.CowText.{text_of};
 ghost use Rattle.first_pass_lines.specs.Lines.{ends_line, is_white_or_line_end};
 ghost use Rattle.first_pass_links.specs.Destinations.{unescaped_upto};
-ghost use Rattle.first_pass_links.specs.Labels.{AnswersWith, AnswersPlaces, CanErr, ErrsAfter, is_bracket, begins_character, ends_line_label, is_label, label_at};
-ghost use Rattle.first_pass_links.specs.Units.{part, read_of, left_at, kept_unit, space_unit, dropped_unit, backslash_unit, IsUnit, Reads, ReadsUnits, IsLighter, IsWhiteRun, EndsWhiteRun, StopsByError, IsBlankRest};
+ghost use Rattle.first_pass_links.specs.Labels.{AnswersWith, AnswersPlaces, CanErr, ErrsAfter, IsLabelUnder, ReadsLabel, is_bracket, begins_character, ends_line_label, is_label};
+ghost use Rattle.first_pass_links.specs.Units.{part, read_of, left_at, kept_unit, space_unit, dropped_unit, backslash_unit, IsUnit, Reads, ReadsUnits, IsLighter, IsWhiteRun, EndsWhiteRun, StopsByError, IsBlankRest, UnderAnswers};
 ghost use Rattle.std.specs.List.{list_any, count_by};
 ghost use Rattle.std.specs.Prelude.{◌≡◌, ◌≢◌, ◌+◌, ◌-◌, ◌<◌, ◌≤◌, ◌++◌, ◌∷◌, [], ℕ, List, Option, true, false, not, None, Some, length, take, drop, slice_index, IfOk, IfSome, IsUtf8, OnErr, IsSomeAnd, MatchOption, if◌then◌else◌};
 ghost use Rattle.std.specs.Str.{IsCharBoundary};
@@ -28,7 +28,8 @@ const MOST_CHARACTERS: usize = 999;
 /// borrowed and takes no memory.
 ///
 /// `linebreak_handler` gets the bytes after each line ending. It returns the length of the next line's prefix, which
-/// is not part of the label, or `None` if the label may not continue there.
+/// is not part of the label, or `None` if the label may not continue there. It need not return the same for the same
+/// bytes: the label is that of the answers that it gave.
 ///
 /// Returns `None` if no unescaped `]` comes before an unescaped `[`, the end, or a line on which the label may not
 /// continue. Also returns `None` if the label has only white space and line endings, or more than 999 characters; the
@@ -47,9 +48,8 @@ where
     requires places { AnswersPlaces text.now (F.post linebreak_handler) }
     ensures value { IfOk result (λ answer. (prefix : List ℕ → Option ℕ)
         → AnswersWith text.now prefix (F.post linebreak_handler)
-        → MatchOption (label_at prefix is_in_table text.now)
-        (answer ≡ None)
-        (λ label. IsSomeAnd answer (λ found. (found.0 ≡ label.0) × (text_of found.1 ≡ label.1)))) }
+        → IsLabelUnder prefix is_in_table text.now answer) }
+    ensures read { IfOk result (λ answer. ReadsLabel text.now is_in_table (F.post linebreak_handler) answer) }
     ensures within { IfOk result (λ answer. IfSome answer (λ found. (0 < found.0) × (found.0 ≤ length text.now))) }
     ensures following { IfOk result (λ answer. IfSome answer (λ found. IsCharBoundary text.now found.0)) }
     ensures borrowed { IfOk result (λ answer. IfSome answer (λ found.
@@ -179,10 +179,10 @@ where
     requires text { IsUtf8 bytes.now }
     requires no_bracket { is_bracket (slice_index bytes.now at) ≡ false }
     ensures some { IfOk result (λ answer. IfSome answer (λ unit. IsUnit bytes.now at unit)) }
-    ensures reads { IfOk result (λ answer. IfSome answer (λ unit. (prefix : List ℕ → Option ℕ)
-        → AnswersWith bytes.now prefix (F.post linebreak_handler.now) → Reads prefix in_table bytes.now at unit)) }
-    ensures none { IfOk result (λ answer. answer ≡ None → (prefix : List ℕ → Option ℕ)
-        → AnswersWith bytes.now prefix (F.post linebreak_handler.now) → IsBlankRest prefix bytes.now at) }
+    ensures reads { IfOk result (λ answer. IfSome answer (λ unit. UnderAnswers bytes.now (F.post linebreak_handler.now)
+        at unit.next (λ prefix. Reads prefix in_table bytes.now at unit))) }
+    ensures none { IfOk result (λ answer. answer ≡ None → UnderAnswers bytes.now (F.post linebreak_handler.now)
+        at (length bytes.now) (λ prefix. IsBlankRest prefix bytes.now at)) }
     ensures err { OnErr result (StopsByError bytes.now at (F.post linebreak_handler.now)) }
 {
     let plain = plain_run(rest_of(bytes, at));
@@ -218,10 +218,10 @@ where
     ensures some { IfOk result (λ answer. IfSome answer (λ run. EndsWhiteRun bytes.now at run.0 run.1)) }
     ensures ends { IfOk result (λ answer.
         IfSome answer (λ run. is_white_or_line_end (slice_index bytes.now run.0) ≡ false)) }
-    ensures reads { IfOk result (λ answer. IfSome answer (λ run. (prefix : List ℕ → Option ℕ)
-        → AnswersWith bytes.now prefix (F.post linebreak_handler.now) → IsWhiteRun prefix bytes.now at run.0 run.1)) }
-    ensures none { IfOk result (λ answer. answer ≡ None → (prefix : List ℕ → Option ℕ)
-        → AnswersWith bytes.now prefix (F.post linebreak_handler.now) → IsBlankRest prefix bytes.now at) }
+    ensures reads { IfOk result (λ answer. IfSome answer (λ run. UnderAnswers bytes.now (F.post linebreak_handler.now)
+        at run.0 (λ prefix. IsWhiteRun prefix bytes.now at run.0 run.1))) }
+    ensures none { IfOk result (λ answer. answer ≡ None → UnderAnswers bytes.now (F.post linebreak_handler.now)
+        at (length bytes.now) (λ prefix. IsBlankRest prefix bytes.now at)) }
     ensures err { OnErr result (StopsByError bytes.now at (F.post linebreak_handler.now)) }
 {
     let mut next = at;
@@ -251,12 +251,10 @@ where
     requires text { IsUtf8 bytes.now }
     requires white { is_white_or_line_end (slice_index bytes.now at) ≡ true }
     ensures some { IfOk result (λ answer. IfSome answer (λ next. (at < next) × IsCharBoundary bytes.now next)) }
-    ensures reads { IfOk result (λ answer. IfSome answer (λ next. (prefix : List ℕ → Option ℕ)
-        → AnswersWith bytes.now prefix (F.post linebreak_handler.now)
-        → left_at prefix bytes.now at ≡ (at, slice_index bytes.now at) ∷ left_at prefix bytes.now next)) }
-    ensures none { IfOk result (λ answer. answer ≡ None → (prefix : List ℕ → Option ℕ)
-        → AnswersWith bytes.now prefix (F.post linebreak_handler.now)
-        → left_at prefix bytes.now at ≡ []) }
+    ensures reads { IfOk result (λ answer. IfSome answer (λ next. UnderAnswers bytes.now (F.post linebreak_handler.now)
+        at next (λ prefix. left_at prefix bytes.now at ≡ (at, slice_index bytes.now at) ∷ left_at prefix bytes.now next))) }
+    ensures none { IfOk result (λ answer. answer ≡ None → UnderAnswers bytes.now (F.post linebreak_handler.now)
+        at (length bytes.now) (λ prefix. left_at prefix bytes.now at ≡ [])) }
     ensures space { IfOk result (λ answer. IfSome answer (λ next.
         slice_index bytes.now at ≡ space → next ≡ at + 1)) }
     ensures err { OnErr result (ErrsAfter bytes.now at (F.post linebreak_handler.now)) }

@@ -1,7 +1,8 @@
-use Rattle.std.proofs.Common.{◌≡◌, ◌<◌, ℕ, List, true, length, slice_index, Ok, ◌+◌, get_or, sym, ap, subst, ◌∙◌, arith, IsUtf8, IsCharBoundary}
+use Rattle.std.proofs.Common.{◌≡◌, ◌<◌, ℕ, List, true, length, slice_index, Ok, Some, None, ◌+◌, get_or, sym, ap, subst, ◌∙◌, arith, IsUtf8, IsCharBoundary}
 use Rattle.std.proofs.lemmas.Str.{IsCharBoundary-after_ascii, IsUtf8-drop}
 use Rattle.first_pass_items.proofs.ResultFacts.{on_err}
 use Rattle.first_pass_lines.specs.Lines.{ends_line, is_white_or_line_end}
+use Rattle.first_pass_links.proofs.Handlers.{under_none, under_one}
 use Rattle.first_pass_links.proofs.Labels.{left-byte, left-end, left-stop, white_is_ascii, place_past}
 use Rattle.first_pass_links.proofs.label.scan_space_byte.Goals as goal
 use Rattle.first_pass_links.proofs.label.scan_space_byte.Goals.{In-Some}
@@ -15,7 +16,8 @@ pub returns-then-not-ends_line-clause-some : goal.returns-then-not-ends_line-cla
 returns-then-not-ends_line-clause-some g c = grind (arith, after_white)
 
 pub returns-then-not-ends_line-clause-reads : goal.returns-then-not-ends_line-clause-reads
-returns-then-not-ends_line-clause-reads g c = grind (arith, left-byte)
+returns-then-not-ends_line-clause-reads g c = under_none (λ h. left-byte h c.args.bytes.now c.args.at c.requires.within
+    (ap (ends_line (get_or c.args.bytes.now c.args.at 0)) (sym c.rest_of-following.ensures.value) ∙ sym c.ends_line.ensures ∙ c.if-not-ends_line.true))
 
 -- the prefix is a part of the bytes after the line ending
 prefix_place : (g : Over) (c : In-Some g) → IsCharBoundary c.args.bytes.now (c.args.at + 1 + c.in-Some.prefix)
@@ -35,19 +37,31 @@ returns-in-Some-clause-some g c = (omega arith, prefix_place g (goal.at.returns-
 
 pub returns-in-Some-clause-reads : goal.returns-in-Some-clause-reads
 returns-in-Some-clause-reads g c =
-    λ h a. left-end h c.args.bytes.now c.args.at c.in-Some.prefix c.requires.within
-    (ap (ends_line (get_or c.args.bytes.now c.args.at 0)) (sym c.rest_of-following.ensures.value) ∙ sym c.ends_line.ensures ∙ c.if-not-ends_line.false)
-    (ap h (sym c.rest_of-following.ensures.value) ∙ a c.rest_of-following.result c.in_ok-prefix.field-0 (c.args.at + 1)
-    (after_white c.args.bytes.now c.args.at c.requires.text c.requires.within c.requires.white) c.rest_of-following.ensures.value c.in_ok-prefix.ensures
-    ∙ c.in-Some.is)
+    let line_end =
+    ap (ends_line (get_or c.args.bytes.now c.args.at 0)) (sym c.rest_of-following.ensures.value) ∙ sym c.ends_line.ensures ∙ c.if-not-ends_line.false in
+    under_one c.args.at (Some c.in-Some.prefix) (omega arith) (record {
+      within = c.requires.within;
+      line_end = line_end;
+      boundary = after_white c.args.bytes.now c.args.at c.requires.text c.requires.within c.requires.white;
+      following = c.rest_of-following.result;
+      past_is = c.rest_of-following.ensures.value;
+      answers = rw c.in-Some.is at c.in_ok-prefix.ensures;
+    })
+    (λ h e. left-end h c.args.bytes.now c.args.at c.in-Some.prefix c.requires.within line_end e)
 
 pub returns-in-None-clause-none : goal.returns-in-None-clause-none
 returns-in-None-clause-none g c =
-    λ e h a. left-stop h c.args.bytes.now c.args.at c.requires.within
-    (ap (ends_line (get_or c.args.bytes.now c.args.at 0)) (sym c.rest_of-following.ensures.value) ∙ sym c.ends_line.ensures ∙ c.if-not-ends_line.false)
-    (ap h (sym c.rest_of-following.ensures.value) ∙ a c.rest_of-following.result c.in_ok-prefix.field-0 (c.args.at + 1)
-    (after_white c.args.bytes.now c.args.at c.requires.text c.requires.within c.requires.white) c.rest_of-following.ensures.value c.in_ok-prefix.ensures
-    ∙ c.in-None.is)
+    let line_end =
+    ap (ends_line (get_or c.args.bytes.now c.args.at 0)) (sym c.rest_of-following.ensures.value) ∙ sym c.ends_line.ensures ∙ c.if-not-ends_line.false in
+    λ e. under_one c.args.at None c.requires.within (record {
+      within = c.requires.within;
+      line_end = line_end;
+      boundary = after_white c.args.bytes.now c.args.at c.requires.text c.requires.within c.requires.white;
+      following = c.rest_of-following.result;
+      past_is = c.rest_of-following.ensures.value;
+      answers = rw c.in-None.is at c.in_ok-prefix.ensures;
+    })
+    (λ h f. left-stop h c.args.bytes.now c.args.at c.requires.within line_end f)
 
 -- the handler fails
 pub returns-in_err-prefix-clause-err : goal.returns-in_err-prefix-clause-err

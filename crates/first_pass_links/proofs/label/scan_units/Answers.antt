@@ -9,8 +9,9 @@ use Rattle.first_pass_items.proofs.ResultFacts.{on_err}
 use Rattle.first_pass_lines.specs.Lines.{begins}
 use Rattle.first_pass_links.specs.Labels.{AnswersWith, IsRewritten, is_bracket, label_at}
 use Rattle.first_pass_links.specs.Plain.{IsPlainLabel}
-use Rattle.first_pass_links.specs.Units.{part, left_at, IsLighter, Reads, ReadsUnits}
+use Rattle.first_pass_links.specs.Units.{part, left_at, IsLighter, Reads, ReadsUnits, UnderAnswers}
 use Rattle.first_pass_links.proofs.Destinations.{first_byte}
+use Rattle.first_pass_links.proofs.Handlers.{under_with, under_none, under_map, under_both}
 use Rattle.first_pass_links.proofs.Parts.{of_text, part-none, part-start}
 use Rattle.first_pass_links.proofs.PlainRuns.{plain_label}
 use Rattle.first_pass_links.proofs.Labels.{too_long, blank_stops, end_stops, at_bracket, label_after, label_read, read_nothing, read_both, read_unit, Known}
@@ -32,35 +33,52 @@ loop-at-init g c =
     record {
       read = record { order = omega arith; within = omega arith; boundary = start; lighter = inl (refl, c.requires.empty) };
       bound = omega arith;
-      tracked = λ h a. rw e (record { read = read_nothing h c.args.in_table text 0; lighter = inl refl });
+      tracked = under_none (λ h. rw e (record { read = read_nothing h c.args.in_table text 0; lighter = inl refl }));
     }
 
 -- a unit is read
-reads : (g : _) (c : In-Some-2 g) (h : List ℕ → Option ℕ) → AnswersWith c.args.text.now h (λ b r. g.F.Fn.post c.args.linebreak_handler.now (b, tt) r)
-    → Reads h c.args.in_table c.args.text.now c.loop-at.at c.in-Some-2.unit
+reads : (g : _) (c : In-Some-2 g) → UnderAnswers c.args.text.now (λ b r. g.F.Fn.post c.args.linebreak_handler.now (b, tt) r) c.loop-at.at
+    c.in-Some-2.unit.next (λ h. Reads h c.args.in_table c.args.text.now c.loop-at.at c.in-Some-2.unit)
 reads g c = rw c.as_bytes-bytes.ensures.value at (rw c.in-Some-2.is at c.in_ok-unit.ensures.reads)
 
+later : (g : _) (c : In-Some-2 g) → (c.loop-at.at < c.in-Some-2.unit.next) × (c.in-Some-2.unit.next ≤ length c.args.text.now)
+later g c =
+    let unit = rw c.as_bytes-bytes.ensures.value at (rw c.in-Some-2.is at c.in_ok-unit.ensures.some) in
+    (unit.later, unit.within)
+
 pub loop-at-preserved : goal.loop-at-preserved
-loop-at-preserved g c = record {
-  read = c.in_ok-from.ensures.read;
-  bound = c.if-characters-gt-MOST_CHARACTERS.false;
-  tracked = λ h a. rw c.in_ok-from.ensures.bytes (track_unit h c.args.in_table c.args.text.now c.loop-at.at _ c.in-Some-2.unit (c.loop-at.from ≡ 0)
-      (c.in_ok-from.from ≡ 0) (c.loop-at.invariant.tracked h a) (reads g (goal.at.loop-at-preserved g c).In-Some-2 h a)
-      (λ e z. c.in_ok-from.ensures.same e ∙ z));
-}
+loop-at-preserved g c =
+    let unit = later g (goal.at.loop-at-preserved g c).In-Some-2 in
+    record {
+      read = c.in_ok-from.ensures.read;
+      bound = c.if-characters-gt-MOST_CHARACTERS.false;
+      tracked = under_both c.loop-at.invariant.tracked (reads g (goal.at.loop-at-preserved g c).In-Some-2) (omega arith, omega arith) (λ h k r.
+          rw c.in_ok-from.ensures.bytes (track_unit h c.args.in_table c.args.text.now c.loop-at.at _ c.in-Some-2.unit (c.loop-at.from ≡ 0)
+          (c.in_ok-from.from ≡ 0) k r (λ e z. c.in_ok-from.ensures.same e ∙ z)));
+    }
 
 -- there is no label
 none_read : (text written : List ℕ) (in_table : Bool) (post : Bor (List ℕ) → Result (Option ℕ) AllocError → Type 0)
-    → ((prefix : List ℕ → Option ℕ) → AnswersWith text prefix post → label_at prefix in_table text ≡ None) → ReadsUnits text in_table post written None
-none_read text written in_table post none = grind arith
+    → UnderAnswers text post 0 (length text) (λ prefix. label_at prefix in_table text ≡ None) → ReadsUnits text in_table post written None
+none_read text written in_table post none = record {
+  value = under_map none (omega arith) (omega arith) (λ h e. rw e refl);
+  closes = tt;
+  lighter = tt;
+  changes = tt;
+}
 
 -- the label is known up to its `]`
 some_read : (text written : List ℕ) (in_table : Bool) (post : Bor (List ℕ) → Result (Option ℕ) AllocError → Type 0) (from at : ℕ)
-    → ((prefix : List ℕ → Option ℕ) → AnswersWith text prefix post → label_at prefix in_table text ≡ Some (at + 1, written ++ part text from at))
+    → UnderAnswers text post 0 (length text) (λ prefix. label_at prefix in_table text ≡ Some (at + 1, written ++ part text from at))
     → (at < length text) × (get_or text at 0 ≡ right_bracket) → IsLighter text written from at
     → (0 < from → (prefix : List ℕ → Option ℕ) → AnswersWith text prefix post → IsRewritten prefix in_table text)
     → ReadsUnits text in_table post written (Some (from, at))
-some_read text written in_table post from at some closes lighter changes = grind arith
+some_read text written in_table post from at some closes lighter changes = record {
+  value = under_map some (omega arith) (omega arith) (λ h e. rw e (refl, refl));
+  closes = closes;
+  lighter = lighter;
+  changes = changes;
+}
 
 -- a plain label
 pub returns-in-Some-clause-ok : goal.returns-in-Some-clause-ok
@@ -71,7 +89,7 @@ returns-in-Some-clause-ok g c =
     let there = first_byte right_bracket text len plain.closes in
     let written : string_bytes c.args.written.now ++ part text 0 len ≡ part text 0 len = ap (λ bs. bs ++ part text 0 len) c.requires.empty in
     some_read text (string_bytes c.args.written.now) c.args.in_table _ 0 len
-    (λ h a. plain_label h c.args.in_table text len plain ∙ ap (λ bs. Some (len + 1, bs)) (sym (written ∙ part-start text len)))
+    (under_none (λ h. plain_label h c.args.in_table text len plain ∙ ap (λ bs. Some (len + 1, bs)) (sym (written ∙ part-start text len))))
     there
     (record {
       order = omega arith;
@@ -82,18 +100,22 @@ returns-in-Some-clause-ok g c =
     (λ some. absurd (omega (arith, some)))
 
 pub returns-in_default-2-clause-ok : goal.returns-in_default-2-clause-ok
-returns-in_default-2-clause-ok g c = none_read c.args.text.now _ c.args.in_table _ (λ h a.
+returns-in_default-2-clause-ok g c =
     let r = rw c.as_bytes-bytes.ensures.value at (c.in_ok-unit.ensures.none c.in_default-2.is) in
-    label_read h c.args.in_table c.args.text.now c.loop-at.at _ (c.loop-at.invariant.tracked h a).read
-    ∙ blank_stops h c.args.in_table c.args.text.now c.loop-at.at (r h a) _)
+    none_read c.args.text.now _ c.args.in_table _ (under_both c.loop-at.invariant.tracked r (omega arith, c.loop-at.invariant.read.within)
+    (λ h k blank. label_read h c.args.in_table c.args.text.now c.loop-at.at _ k.read ∙ blank_stops h c.args.in_table c.args.text.now c.loop-at.at blank _))
 
 pub returns-then-characters-gt-MOST_CHARACTERS-clause-ok : goal.returns-then-characters-gt-MOST_CHARACTERS-clause-ok
-returns-then-characters-gt-MOST_CHARACTERS-clause-ok g c = none_read c.args.text.now _ c.args.in_table _ (λ h a.
+returns-then-characters-gt-MOST_CHARACTERS-clause-ok g c =
     let text = c.args.text.now in
     let unit = c.in-Some-2.unit in
-    let u = read_unit h c.args.in_table text c.loop-at.at unit (reads g (goal.at.returns-then-characters-gt-MOST_CHARACTERS-clause-ok g c).In-Some-2 h a) in
-    label_read h c.args.in_table text unit.next _ (read_both h c.args.in_table text 0 c.loop-at.at unit.next _ _ (c.loop-at.invariant.tracked h a).read u)
-    ∙ too_long c.args.in_table _ (left_at h text unit.next) c.if-characters-gt-MOST_CHARACTERS.true)
+    let here = (goal.at.returns-then-characters-gt-MOST_CHARACTERS-clause-ok g c).In-Some-2 in
+    let order = later g here in
+    let read = under_both c.loop-at.invariant.tracked (reads g here) (omega arith, omega arith) (λ h k r.
+    label_read h c.args.in_table text unit.next _ (read_both h c.args.in_table text 0 c.loop-at.at unit.next _ _ k.read
+    (read_unit h c.args.in_table text c.loop-at.at unit r))
+    ∙ too_long c.args.in_table _ (left_at h text unit.next) c.if-characters-gt-MOST_CHARACTERS.true) in
+    none_read text _ c.args.in_table _ (under_map read (omega arith) order.1 (λ h e. e))
 
 -- at a place that is not the `]` of a label there is none
 not_closed : (h : List ℕ → Option ℕ) (t : Bool) (text : List ℕ) (at : ℕ) (known : Known) → known.characters ≤ 999
@@ -107,10 +129,10 @@ returns-then-begins-clause-ok g c =
     let closes = sym (of_text (begins right_bracket) _ c.begins.ensures.value c.rest_of.ensures.value c.as_bytes-bytes.ensures.value) ∙ c.if-begins.true in
     let there = first_byte right_bracket text c.loop-at.at closes in
     some_read text _ c.args.in_table _ c.loop-at.from c.loop-at.at
-    (λ h a. label_read h c.args.in_table text c.loop-at.at _ (c.loop-at.invariant.tracked h a).read
-    ∙ at_bracket h c.args.in_table text c.loop-at.at _ there.0 (rw there.1) c.loop-at.invariant.bound ∙ rw (there.1, c.if-solid.true))
-    there c.loop-at.invariant.read
-    (λ some h a. track_written h c.args.in_table text c.loop-at.at _ (c.loop-at.from ≡ 0) (c.loop-at.invariant.tracked h a) (λ z. omega (arith, some, z)))
+    (under_map c.loop-at.invariant.tracked (omega arith) c.loop-at.invariant.read.within (λ h k. label_read h c.args.in_table text c.loop-at.at _ k.read
+    ∙ at_bracket h c.args.in_table text c.loop-at.at _ there.0 (rw there.1) c.loop-at.invariant.bound ∙ rw (there.1, c.if-solid.true)))
+    there c.loop-at.invariant.read (λ some h a. track_written h c.args.in_table text c.loop-at.at _ (c.loop-at.from ≡ 0)
+    (under_with c.loop-at.invariant.tracked h a) (λ z. omega (arith, some, z)))
 
 pub returns-clause-ok : goal.returns-clause-ok
 returns-clause-ok g c =
@@ -128,19 +150,20 @@ returns-clause-ok g c =
       | else-solid-via-else-solid w ↦ inl w.if-solid.false
     ] in
     none_read text _ c.args.in_table _
-    (λ h a. label_read h c.args.in_table text c.loop-at.at _ (c.loop-at.invariant.tracked h a).read
-    ∙ not_closed h c.args.in_table text c.loop-at.at _ c.loop-at.invariant.bound bracket why)
+    (under_map c.loop-at.invariant.tracked (omega arith) c.loop-at.invariant.read.within (λ h k. label_read h c.args.in_table text c.loop-at.at _ k.read
+    ∙ not_closed h c.args.in_table text c.loop-at.at _ c.loop-at.invariant.bound bracket why))
 
 -- the handler fails
 pub returns-in_err-unit-clause-err : goal.returns-in_err-unit-clause-err
 returns-in_err-unit-clause-err g c =
     on_err c.from_residual.result
-    (λ h a. track_stop h c.args.in_table c.args.text.now c.loop-at.at _ _ (c.loop-at.invariant.tracked h a).read
+    (λ h a. track_stop h c.args.in_table c.args.text.now c.loop-at.at _ _ (under_with c.loop-at.invariant.tracked h a).read
     (rw c.as_bytes-bytes.ensures.value at c.in_err-unit.ensures.err) a)
 
 -- a unit is written
 pub returns-in_err-from-clause-err : goal.returns-in_err-from-clause-err
 returns-in_err-from-clause-err g c = on_err c.from_residual-in_err-from.result (λ h a.
-    let k = track_unit h c.args.in_table c.args.text.now c.loop-at.at _ c.in-Some-2.unit (c.loop-at.from ≡ 0) ⊥ (c.loop-at.invariant.tracked h a)
-    (reads g (goal.at.returns-in_err-from-clause-err g c).In-Some-2 h a) (λ e z. c.in_err-from.ensures.err e) in
+    let k = track_unit h c.args.in_table c.args.text.now c.loop-at.at _ c.in-Some-2.unit (c.loop-at.from ≡ 0) ⊥
+    (under_with c.loop-at.invariant.tracked h a) (under_with (reads g (goal.at.returns-in_err-from-clause-err g c).In-Some-2) h a)
+    (λ e z. c.in_err-from.ensures.err e) in
     inl (track_written h c.args.in_table c.args.text.now c.in-Some-2.unit.next _ ⊥ k (λ z. z)))

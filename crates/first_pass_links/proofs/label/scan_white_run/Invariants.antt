@@ -1,7 +1,6 @@
-use Rattle.std.proofs.Common.{◌≡◌, ◌≤◌, ◌-◌, ◌+◌, ℕ, List, Option, length, slice_index, IsCharBoundary}
+use Rattle.std.proofs.Common.{◌≡◌, ◌≤◌, ◌-◌, ◌+◌, length, slice_index, IsCharBoundary}
 use Rattle.first_pass_items.specs.Bytes.{space}
-use Rattle.first_pass_links.specs.Labels.{AnswersWith}
-use Rattle.first_pass_links.specs.Units.{IsWhiteRun}
+use Rattle.first_pass_links.specs.Units.{IsWhiteRun, UnderAnswers}
 use Rattle.first_pass_links.proofs.label.scan_white_run.Given as goal
 
 -- the bytes up to here are a run of white space
@@ -13,7 +12,7 @@ invariant-loop-next g l = record {
   bound : l.characters ≤ l.next - l.at;
   lone : (l.characters ≡ 1) → (slice_index l.bytes l.at ≡ space) → (l.next ≡ l.at + 1);
   started : (l.characters ≡ 0) → (l.next ≡ l.at);
-  run : (prefix : List ℕ → Option ℕ) → AnswersWith l.bytes prefix (goal.F-post g l.linebreak_handler) → IsWhiteRun prefix l.bytes l.at l.next l.characters;
+  run : UnderAnswers l.bytes (goal.F-post g l.linebreak_handler) l.at l.next (λ prefix. IsWhiteRun prefix l.bytes l.at l.next l.characters);
 }
 
 abbrev pub decreases-loop-next : goal.decreases-loop-next
