@@ -67,7 +67,7 @@ pub fn parse_indented_code_block<'a>(
     open_block(tree, start.at, ItemBody::IndentCodeBlock)?;
     tree.recall_forest();
     let nodes_to_quote = nodes_to_quote(tree);
-    let mut next = append_line(tree, allocs, text, start.at, start.owed)?;
+    let mut next = append_code_line(tree, allocs, text, start.at, start.owed)?;
     let mut kept = Kept {
         last: tree.cur(),
         end: next,
@@ -76,7 +76,7 @@ pub fn parse_indented_code_block<'a>(
     'lines: while let Some(line_start) = indented_line(source, tree, next, nodes_to_quote) {
         let at = next + line_start.bytes_scanned();
         blank = scan_blank_line(line_start.left()).is_some();
-        next = append_line(tree, allocs, text, at, line_start.remaining_space())?;
+        next = append_code_line(tree, allocs, text, at, line_start.remaining_space())?;
         kept = kept_line(kept, tree, blank, next);
     }
     cut_after(tree, kept);
@@ -85,7 +85,7 @@ pub fn parse_indented_code_block<'a>(
 }
 
 // Appends the line of code from the offset `at` on, with `owed` columns owed there, and returns the end of the line.
-fn append_line<'a>(
+fn append_code_line<'a>(
     tree: &mut Tree<Item>,
     allocs: &mut Allocations<'a>,
     text: &str,

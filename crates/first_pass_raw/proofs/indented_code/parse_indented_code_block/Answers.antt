@@ -16,23 +16,23 @@ lines-init c =
     let e = c.in_ok-next.ensures.«end» in
     let opened : Forest Item = opened_block c.args.tree.now c.args.start.now.at IndentCodeBlock in
     let line = subst (λ (f : Forest Item).
-    AppendsRaw range_text c.args.source.now.text.now (names_of c.append_line.new.allocs) c.args.start.now.owed c.args.start.now.at c.in_ok-next.next f
-    c.append_line.new.tree)
+    AppendsRaw range_text c.args.source.now.text.now (names_of c.append_code_line.new.allocs) c.args.start.now.owed c.args.start.now.at c.in_ok-next.next f
+    c.append_code_line.new.tree)
     c.in_ok-open_block.ensures.tree c.in_ok-next.ensures.line in
     record {
-      boundary = (first_read c.args.source.now.text.now _ c.args.start.now.at c.in_ok-next.next c.append_line.ensures.utf8 c.requires.boundary refl e).1;
+      boundary = (first_read c.args.source.now.text.now _ c.args.start.now.at c.in_ok-next.next c.append_code_line.ensures.utf8 c.requires.boundary refl e).1;
       from = omega arith;
       named = c.in_ok-next.ensures.more.names;
       same_entries = c.in_ok-next.ensures.more.entries;
-      read = λ p at o. so_far_first (document c.args.source.now.text.now c.args.source.now.options (names_of c.append_line.new.allocs)) p opened
+      read = λ p at o. so_far_first (document c.args.source.now.text.now c.args.source.now.options (names_of c.append_code_line.new.allocs)) p opened
           c.args.start.now.at c.cur.result
           (record {
-            new = c.append_line.new.tree;
-            named = names_of c.append_line.new.allocs;
+            new = c.append_code_line.new.tree;
+            named = names_of c.append_code_line.new.allocs;
             owed = c.args.start.now.owed;
             from = c.args.start.now.at;
             to = c.in_ok-next.next;
-            extends = extends_none (names_of c.append_line.new.allocs);
+            extends = extends_none (names_of c.append_code_line.new.allocs);
             line = line;
             owed_is = sym o;
             from_is = sym at.offset_is;
@@ -61,7 +61,7 @@ continues c =
     let first = c.lines.invariant.read (first_at text c.args.start.now.at c.args.start.now.owed)
     (first_is text c.args.start.now.at c.args.start.now.owed) refl in
     record {
-      utf8 = c.append_line.ensures.utf8;
+      utf8 = c.append_code_line.ensures.utf8;
       boundary = c.lines.invariant.boundary;
       goes = sym (next_rest _ _ _ _ _ _ _ c.indented_line.result first forest c.indented_line.ensures.value) ∙ c.in-Some.is;
       place = c.in-Some.ensures.place;
@@ -91,8 +91,8 @@ lines-preserved c =
       same_entries = c.in_ok-next-2.ensures.more.entries ∙ i.same_entries;
       read = λ p at o. so_far_next (joins_none-fresh opened refl) (i.read p at o) goes
           (record {
-            new = c.append_line-in-Some.new.tree;
-            named = names_of c.append_line-in-Some.new.allocs;
+            new = c.append_code_line-in-Some.new.tree;
+            named = names_of c.append_code_line-in-Some.new.allocs;
             owed = c.remaining_space.result;
             from = c.lines.next + c.bytes_scanned.result;
             to = c.in_ok-next-2.next;
