@@ -4,17 +4,17 @@ ghost use Rattle.first_pass_grammar.specs.TableHeads.{table_at, table_interrupts
 ghost use Rattle.first_pass_items.specs.Bytes.{backslash, colon, pipe};
 ghost use Rattle.first_pass_kinds.specs.Memory.{may_head_table};
 ghost use Rattle.first_pass_kinds.specs.TableHeads.{table_head_len};
-ghost use Rattle.first_pass_lines.specs.Lines.{begins};
+ghost use Rattle.first_pass_lines.specs.Lines.{begins, is_content, line_len};
 ghost use Rattle.first_pass_lines.specs.Plain.{begins_inert};
 ghost use Rattle.first_pass_open.specs.Path.{path_of, context_of};
-ghost use Rattle.std.specs.List.{suffix_len};
+ghost use Rattle.std.specs.List.{prefix_len, suffix_len};
 ghost use Rattle.std.specs.Option.{option_map};
 ghost use Rattle.std.specs.Prelude.{◌≡◌, ◌≤◌, ◌+◌, ◌==◌, ◌&&◌, ◌||◌, not, length, drop, true, IfOk, IfSome, OnOk, OnErr, IsUtf8, IsCharBoundary};
 
 use bitflags::Flags;
 use first_pass_items::item::{Alignment, Item};
 use first_pass_items::option_set::Options;
-use first_pass_lines::lines::{begins, content_len, is_inert_front, scan_nextline};
+use first_pass_lines::lines::{begins, content_len, is_inert_front, scan_eol, scan_nextline};
 use first_pass_lines::places::rest_of;
 use first_pass_open::front::front_of;
 use first_pass_open::source::Source;
@@ -28,6 +28,8 @@ use std::alloc::AllocError;
 pub struct HeadedTable {
     /// The alignments of its columns.
     pub alignments: Vec<Alignment>,
+    // The number of bytes of the header row, without its line ending.
+    row_content: usize,
     /// The number of bytes from the start of the header row to the end of the delimiter row. It includes both line
     /// endings, and the container prefixes before the delimiter row.
     pub table_head_len: usize,
@@ -40,6 +42,21 @@ fn begins_no_row(bytes: &[u8]) -> bool
     ensures { result ≡ (begins_inert bytes.now && not (begins pipe bytes.now || begins colon bytes.now)) }
 {
     is_inert_front(bytes) && !matches!(bytes, [b'|' | b':', ..])
+}
+
+// The length of the first line of `bytes` with its line ending. Without that, its length is `content`.
+#[inline(always)]
+#[tactic(auto, unfolding(first_pass_lines::specs::Lines::line_len))]
+fn line_len(bytes: &[u8], content: usize) -> usize
+    requires content { content ≡ prefix_len is_content bytes.now }
+    requires within { content ≤ length bytes.now }
+    ensures value { result ≡ line_len bytes.now }
+    ensures within { result ≤ length bytes.now }
+{
+    match scan_eol(&bytes[content..]) {
+        Some(end) => content + end,
+        None => content,
+    }
 }
 
 // The table whose header row is the first line of `bytes`. `bytes` extends from there to the end of the text, or to an
@@ -56,8 +73,10 @@ fn scan_table_at(
         ≡ table_at (path_of source.now.options tree.now) bytes.now) }
     ensures head { IfOk result (λ found. IfSome found (λ t. t.table_head_len ≡ table_head_len bytes.now)) }
     ensures within { IfOk result (λ found. IfSome found (λ t. t.table_head_len ≤ length bytes.now)) }
+    ensures content { IfOk result (λ found. IfSome found (λ t. t.row_content ≡ prefix_len is_content bytes.now)) }
 {
-    let row_len = scan_nextline(bytes);
+    let row_content = content_len(bytes);
+    let row_len = line_len(bytes, row_content);
     let after = rest_of(bytes, row_len);
     if begins_no_row(after) {
         return Ok(None);
@@ -74,6 +93,7 @@ fn scan_table_at(
     }
     Ok(Some(HeadedTable {
         alignments,
+        row_content,
         table_head_len: row_len + scan_nextline(after),
     }))
 }
@@ -104,11 +124,12 @@ fn scan_last_backslashes(bytes: &[u8]) -> usize
     bytes.iter().rev().take_while(|b| **b == b'\\').count()
 }
 
-// Whether the first line of `bytes` ends in an odd number of backslashes.
-fn ends_in_backslash(bytes: &[u8]) -> bool
+// Whether the first line of `bytes`, of `content` bytes without its line ending, ends in an odd number of backslashes.
+fn ends_in_backslash(bytes: &[u8], content: usize) -> bool
+    requires { content ≡ prefix_len is_content bytes.now }
     ensures { result ≡ ends_in_backslash bytes.now }
 {
-    scan_last_backslashes(&bytes[..content_len(bytes)]) % 2 == 1
+    scan_last_backslashes(&bytes[..content]) % 2 == 1
 }
 
 /// Returns the table whose header row is the first line of `bytes`, given that no container or other block begins
@@ -137,7 +158,7 @@ pub fn scan_headed_line(
     let Some(table) = scan_table_at(source, tree, bytes)? else {
         return Ok(None);
     };
-    if ends_in_backslash(bytes) {
+    if ends_in_backslash(bytes, table.row_content) {
         Ok(None)
     } else {
         Ok(Some(table))
