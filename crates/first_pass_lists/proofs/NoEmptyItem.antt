@@ -1,10 +1,10 @@
 -- If the state records no empty item, it still records none after nodes are closed or opened.
-use Rattle.std.proofs.Common.{◌≡◌, ℕ, Bool, true, false, List, ◌∷◌, Option, Some, None, [], refl, if◌then◌else◌, arith}
+use Rattle.std.proofs.Common.{◌≡◌, ℕ, Bool, true, false, List, ◌∷◌, Option, Some, None, [], refl, ap, if◌then◌else◌, arith}
 use Rattle.first_pass_grammar.proofs.Common.{Item, ItemBody, TreeIndex, Forest, with_body_at, body_at, list_flags, CowIndex}
 use Rattle.first_pass_items.specs.declared.item.ItemBody.TheVariants.{List as ListBody, ListItem as ListItemBody, Paragraph as ParagraphBody}
 use Rattle.first_pass_open.specs.OpenBlock.{closed_by}
 use Rattle.first_pass_lists.specs.Closing.{top_end, possible_title, current_moved, definitions_closed, with_tree, popped_after}
-use Rattle.first_pass_lists.specs.Closing.{popped_by, popped_at, popped, empty_item_closed_by, empty_item_closed, list_finished}
+use Rattle.first_pass_lists.specs.Closing.{popped_by, popped_at, popped, empty_item_closed_by, empty_item_closed, list_closed, gap_marked, list_finished}
 use Rattle.first_pass_lists.specs.Closing.{loosened_top, list_kept, begun, list_continued, footnote_begun}
 use Rattle.first_pass_lists.specs.declared.state.PassState.{PassState}
 
@@ -15,6 +15,19 @@ none_by r o h = grind (arith, h)
 pub finished_none : (r : PassState) → (empty_item_closed r).begin_list_item ≡ None
 unfolding empty_item_closed
 finished_none r = none_by r r.begin_list_item refl
+
+closed_by_none : (r : PassState) (o : Option ℕ) → o ≡ None → empty_item_closed_by r o ≡ r
+closed_by_none r o h = rw h refl
+
+-- without an empty item, closing it changes nothing
+pub closed_unchanged : (r : PassState) → r.begin_list_item ≡ None → empty_item_closed r ≡ r
+unfolding empty_item_closed
+closed_unchanged r none = closed_by_none r r.begin_list_item none
+
+-- after an empty item is closed, a list ends as it does where none is recorded
+pub continued_anew : (e : ℕ) (r : PassState) → list_finished e (empty_item_closed r) ≡ gap_marked (list_closed e (empty_item_closed r))
+unfolding list_finished
+continued_anew e r = ap (λ q. gap_marked (list_closed e q)) (closed_unchanged (empty_item_closed r) (finished_none r))
 
 popped_by_none : (r : PassState) (f : Forest Item) (ix : TreeIndex) (b : Option ItemBody) → r.begin_list_item ≡ None
     → (popped_by r f ix b).begin_list_item ≡ None

@@ -301,10 +301,11 @@ impl PassState {
     pub fn finish_empty_list_item(&mut self)
         ensures { self.new ≡ empty_item_closed self.old }
     {
-        if let Some(marker_end) = self.begin_list_item {
-            if self.blank && self.is_in_item() {
-                self.pop(marker_end);
-            }
+        let Some(marker_end) = self.begin_list_item else {
+            return;
+        };
+        if self.blank && self.is_in_item() {
+            self.pop(marker_end);
         }
         self.begin_list_item = None;
     }
@@ -333,6 +334,13 @@ impl PassState {
         ensures { self.new ≡ list_finished ix self.old }
     {
         self.finish_empty_list_item();
+        self.end_list(ix);
+    }
+
+    // Does the rest of `finish_list`, after an empty item is closed.
+    fn end_list(&mut self, ix: usize)
+        ensures { self.new ≡ gap_marked (list_closed ix self.old) }
+    {
         self.leave_list(ix);
         self.mark_gap();
     }
@@ -448,9 +456,9 @@ impl PassState {
 
     /// Makes a list with the byte `ch` the innermost open node, so that an item can be opened in it. First closes an
     /// empty item as `finish_empty_list_item` does. If the innermost open node is then a list with this byte, that
-    /// list continues, and a counting blank line directly before makes it loose. Otherwise calls `finish_list`, and
-    /// opens a list with this byte and the number `index`. Both are at the offset `start`.
-    #[tactic(auto, unfolding(crate::specs::Closing::list_continued))]
+    /// list continues, and a counting blank line directly before makes it loose. Otherwise does the rest of what
+    /// `finish_list` does, and opens a list with this byte and the number `index`. Both are at the offset `start`.
+    #[tactic(auto, using(crate::proofs::NoEmptyItem::continued_anew), unfolding(crate::specs::Closing::list_continued))]
     #[inline(always)]
     pub fn continue_list(&mut self, start: usize, ch: u8, index: u64) -> Result<(), AllocError>
         ensures { OnOk result (self.new ≡ list_continued start ch index self.old) }
@@ -460,7 +468,7 @@ impl PassState {
             self.keep_list();
             return Ok(());
         }
-        self.finish_list(start);
+        self.end_list(start);
         open_block(
             &mut self.tree,
             start,
