@@ -38,6 +38,7 @@ use Rattle.first_pass_blocks.specs.OpenedFootnotes.{ReadsFootnote, StaysSame}
 use Rattle.first_pass_order.specs.Ordered.{IsOrderedAt, IsOrderedFrom, IsReadFrom, IsReadTo}
 use Rattle.first_pass_containers.specs.Positions.{LineAt}
 use Rattle.first_pass_blocks.specs.Progress.{ReadsBlock}
+use Rattle.first_pass_blocks.specs.Written.{HasFirstLabels}
 use Rattle.first_pass_ready.specs.State.{Ready}
 use Rattle.first_pass.specs.declared.state.FirstPass.{FirstPass}
 use Rattle.first_pass.specs.Closable.{IsClosable}
@@ -57,6 +58,7 @@ pub record StartsPass (text : List ℕ) (options : Options) (pass : FirstPass) :
   pub order : IsClosable text (state_of pass) 0
   pub root : length (tree_of pass).nodes ≡ 1
   pub named : AreNamed (names_of (allocs_of pass)) (tree_of pass).nodes
+  pub labels : HasFirstLabels (allocs_of pass) (tree_of pass).nodes
   pub tables : HasWholeTables (names_of (allocs_of pass)) (tree_of pass)
   pub braces : braces_of pass ≡ no_braces
 

@@ -9,7 +9,10 @@ use Rattle.first_pass_blocks.proofs.Common.{AfterMarker, OnLine, TaskText, LineE
 use Rattle.first_pass_blocks.proofs.Common.{StaysSame, ReadsLeaf, last_at, IsStateAtPlace, place_before_end, only_leaf, reads_none, allocs_of, front_of}
 use Rattle.first_pass_blocks.proofs.Common.{state_of, source_of, source_text, tree_of, source_options, IsReadFrom, Ready}
 use Rattle.first_pass_containers.specs.Entering.{EntersLine}
-use Rattle.first_pass_names.specs.TableEntries.{Entries}
+use Rattle.first_pass_names.specs.TableEntries.{Entries, footdefs_of}
+use Rattle.first_pass_order.specs.Footnotes.{footnotes_in}
+use Rattle.first_pass_blocks.specs.Written.{HasFirstLabels}
+use Rattle.first_pass_blocks.proofs.FootnoteLabels.{labels_stay}
 use Rattle.first_pass_blocks.specs.Progress.{HasSameParts, ReadsBlock, IsAtPlace, KeepsPass, PassesTo, ReadsBlockOf, ReadsEntered}
 use Rattle.first_pass_containers.specs.Starts.{BeginsNoContainer}
 use Rattle.first_pass_blocks.specs.declared.state.BlockPass.{BlockPass}
@@ -26,6 +29,8 @@ passes_state over line old new p q source same step =
         names = extends_equal _ _ (ap names_of same);
         named = λ h. rw same (step.named (names_of (allocs_of old)) h);
         written = λ h. rw same h;
+        footnotes = labels_stay (allocs_of old) (allocs_of new) (tree_of old).nodes (tree_of new).nodes (extends_equal _ _ (ap names_of same))
+            step.footnotes (ap footdefs_of same);
         tables = λ h k. rw same (step.tables (names_of (allocs_of old)) k);
       };
       ready = λ more extends ready. rw same (step.ready more (tables_of (allocs_of old)) ready);
@@ -35,7 +40,7 @@ passes_state over line old new p q source same step =
 
 -- what is kept without a step, and in two steps
 pub keeps_none : (pass : BlockPass) → KeepsPass (source_of pass) pass pass
-keeps_none pass = record { source = refl; names = extends_none _; named = λ h. h; written = λ h. h; tables = λ h k. k }
+keeps_none pass = record { source = refl; names = extends_none _; named = λ h. h; written = λ h. h; footnotes = λ h. h; tables = λ h k. k }
 
 keeps_both : (over : Source) (a b c : BlockPass) → KeepsPass over a b → KeepsPass over b c → KeepsPass over a c
 keeps_both over a b c one two = record {
@@ -43,6 +48,7 @@ keeps_both over a b c one two = record {
   names = extends_both (names_of (allocs_of c)) (names_of (allocs_of b)) (names_of (allocs_of a)) two.names one.names;
   named = λ h. two.named (one.named h);
   written = λ h. two.written (one.written h);
+  footnotes = λ h. two.footnotes (one.footnotes h);
   tables = λ h k. two.tables (one.named h) (one.tables h k);
 }
 
@@ -211,6 +217,7 @@ pub record IsReadUpTo (text : List ℕ) (options : Options) (pass : BlockPass) (
   pub order : IsReadFrom options text (state_of pass) ix
   pub named : AreNamed (names_of (allocs_of pass)) (tree_of pass).nodes
   pub written : TablesAreWritten text (allocs_of pass)
+  pub footnotes : HasFirstLabels (allocs_of pass) (tree_of pass).nodes
   pub node_bound : counted_nodes (tree_of pass).nodes ≤ 1 + 4 * ix
 
 read_on : (old new : BlockPass) (far ix next : ℕ) → IsReadUpTo (source_text old) (source_options old) old ix → ReadsBlock old new far (LineAt ix) next
@@ -223,6 +230,7 @@ read_on old new far ix next i e later = record {
   order = e.order i.order;
   named = e.kept.named i.named;
   written = e.kept.written i.written;
+  footnotes = e.kept.footnotes i.footnotes;
   node_bound = (let read = i.node_bound in let grows = e.node_bound in omega arith);
 }
 
@@ -235,7 +243,7 @@ block_more {old = old} {new = new} {far = far} {ix = ix} {next = next} i e later
 -- room is made
 pub room_made : {text : List ℕ} {options : Options} {old new : BlockPass} {ix : ℕ} → IsReadUpTo text options old ix → HasSameParts old new
     → IsReadUpTo text options new ix
-room_made i same = record {
+room_made {old = old} {new = new} i same = record {
   same_text = ap (λ (z : Source). z.text.now) same.source ∙ i.same_text;
   same_options = ap (λ (z : Source). z.options) same.source ∙ i.same_options;
   boundary = i.boundary;
@@ -243,6 +251,8 @@ room_made i same = record {
   order = rw same.state i.order;
   named = rw (same.names, same.state) i.named;
   written = rw (ap (λ (e : Entries). e.links) same.entries, ap (λ (e : Entries). e.footnotes) same.entries) i.written;
+  footnotes = labels_stay (allocs_of old) (allocs_of new) (tree_of old).nodes (tree_of new).nodes (extends_equal _ _ same.names)
+      (ap (λ (r : PassState). footnotes_in r.tree.nodes) same.state) (ap (λ (e : Entries). e.footnotes) same.entries) i.footnotes;
   node_bound = rw same.state i.node_bound;
 }
 

@@ -6,17 +6,20 @@ use Rattle.first_pass_grammar.proofs.Common.{gfm_footnotes, line_len, place_leng
 use Rattle.first_pass_blocks.proofs.Common.{named_more, tables_of, names_of, all_keep, PassState, line_or, OrderedIn, TriesFootnote, allocs_of, state_of}
 use Rattle.first_pass_blocks.proofs.Common.{source_of, source_text, tree_of, context_in, front_of, line_or-below, unindented_later, IsStateAtPlace, no_table}
 use Rattle.first_pass_blocks.proofs.Common.{head_at_mark, FinishesNothing}
-use Rattle.first_pass_names.proofs.NameLemmas.{extends_named, text_last}
+use Rattle.first_pass_names.proofs.NameLemmas.{extends_named, extends_none, text_last}
 use Rattle.first_pass_open.proofs.PlaceLemmas.{line_start_end}
 use Rattle.first_pass_lists.specs.Closing.{footnote_begun}
 use Rattle.first_pass_blocks.specs.declared.state.BlockPass.{BlockPass}
 use Rattle.first_pass_ready.specs.State.{ReadyAt}
 use Rattle.first_pass_blocks.specs.OpenedFootnotes.{OpenedFootnote}
+use Rattle.first_pass_blocks.proofs.FootnoteLabels.{labels_more}
 use Rattle.first_pass_blocks.proofs.LinkDefinitions.{footnote_written}
 use Rattle.first_pass_ready.proofs.FootnoteLemmas.{after_note, note_is_open}
 use Rattle.first_pass_containers.proofs.OrderSteps.{ordered_on, ordered_note_in}
 use Rattle.first_pass_containers.proofs.Openings.StartLemmas.{footnote_just_opened}
 use Rattle.first_pass_order.proofs.CountLemmas.{note_count}
+use Rattle.first_pass_order.specs.Footnotes.{footnotes_in}
+use Rattle.first_pass_order.proofs.FootnotesKept.{note_notes}
 use Rattle.first_pass_order.proofs.NamedLemmas.{note_named}
 use Rattle.first_pass_order.proofs.WholeKept.{note_whole, more_whole}
 use Rattle.first_pass_containers.specs.FootnoteHeads.{footnote_mark_at, head_read, after_head, IsAfterHead}
@@ -146,6 +149,10 @@ module _ (old new : BlockPass) (p q : Place) (at n : ℕ) (head : ℕ × List �
             named = opened_named opened;
             written = footnote_written text (allocs_of old) (allocs_of new) start head opened.text
                 (record { around = context_in old; nested = nested; here = rw mark found.here }) opened.label opened.borrowed opened.tells;
+            footnotes = labels_more (allocs_of old) (allocs_of new) (tree_of old).nodes (tree_of new).nodes opened.index opened.text more_names
+                (ap (λ (r : PassState). footnotes_in r.tree.nodes) opened.opened ∙ note_notes start opened.index (state_of old))
+                (text_last (names_of (allocs_of old)) (names_of (allocs_of new)) (names_of (allocs_of new)) opened.index opened.text opened.last
+                opened.names (extends_none _)) opened.tells;
             tables = λ h k. rw opened.opened (note_whole (names_of (allocs_of new)) start opened.index (state_of old) is_at.forest
                 (more_whole (names_of (allocs_of new)) (names_of (allocs_of old)) (tree_of old) more_names h k));
           };

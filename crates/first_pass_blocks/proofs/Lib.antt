@@ -1,5 +1,6 @@
 pub mod BlockRead
 pub mod Common
+pub mod FootnoteLabels
 pub mod FootnoteOpened
 pub mod Leaves
 pub mod LinkDefinitions

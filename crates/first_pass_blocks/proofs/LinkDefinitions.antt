@@ -36,7 +36,7 @@ pub record RunSoFar (text : List ℕ) (around : Context) (nested : Bool) (p q : 
 
 -- nothing is put into the table, or read, at the start
 pub puts_none : (pass : BlockPass) → PutsDefinitions pass pass
-puts_none pass = record { source = refl; front = refl; state = refl; names = refl; written = λ h. h }
+puts_none pass = record { source = refl; front = refl; state = refl; names = refl; footnotes = refl; written = λ h. h }
 
 pub run_begun : {text : List ℕ} {around : Context} {nested : Bool} {p : Place} {tables : Tables}
     → IsPlaceOf text p → RunSoFar text around nested p p tables tables

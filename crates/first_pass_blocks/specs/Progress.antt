@@ -10,7 +10,7 @@ use Rattle.first_pass_grammar.specs.Completion.{lines_from}
 use Rattle.first_pass_grammar.specs.WholeTables.{HasWholeTables}
 use Rattle.first_pass_names.specs.declared.items.Allocations.{Allocations}
 use Rattle.first_pass_names.specs.TableEntries.{entries, tables_of, names_of}
-use Rattle.first_pass_blocks.specs.Written.{TablesAreWritten}
+use Rattle.first_pass_blocks.specs.Written.{HasFirstLabels, TablesAreWritten}
 use Rattle.first_pass_open.specs.declared.source.Source.{Source}
 use Rattle.first_pass_blocks.specs.declared.state.BlockPass.{BlockPass}
 use Rattle.first_pass_blocks.specs.Views.{allocs_of, front_of, state_of, source_of, source_text, tree_of}
@@ -37,13 +37,15 @@ abbrev pub parts_of : BlockPass → Parts
 parts_of pass = record { source = source_of pass; allocs = allocs_of pass; tree = tree_of pass }
 
 -- A pass over a source reads the same text, and names are kept. If each index named an entry, each still does. If the
--- entries of the tables were written in the text, they still are. If each index named an entry, and all tables were
--- whole with no row open, they still are (this project).
+-- entries of the tables were written in the text, they still are. If the table of footnotes had copies of the first
+-- labels that nodes name, it still has. If each index named an entry, and all tables were whole with no row open, they
+-- still are (this project).
 pub record KeepsParts (over : Source) (old new : Parts) : Type 0 where
   pub source : new.source ≡ old.source
   pub names : Extends (names_of new.allocs) (names_of old.allocs)
   pub named : AreNamed (names_of old.allocs) old.tree.nodes → AreNamed (names_of new.allocs) new.tree.nodes
   pub written : TablesAreWritten over.text.now old.allocs → TablesAreWritten over.text.now new.allocs
+  pub footnotes : HasFirstLabels old.allocs old.tree.nodes → HasFirstLabels new.allocs new.tree.nodes
   pub tables : AreNamed (names_of old.allocs) old.tree.nodes → HasWholeTables (names_of old.allocs) old.tree → HasWholeTables (names_of new.allocs) new.tree
 
 -- the same for the parts of two passes (this project)

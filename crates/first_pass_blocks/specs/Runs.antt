@@ -10,7 +10,7 @@ use Rattle.first_pass_blocks.specs.declared.definition.RunEnd.{RunEnd}
 use Rattle.first_pass_blocks.specs.declared.definition.RunEnd.TheVariants.{NextLine, Paragraph}
 use Rattle.first_pass_tree.specs.Forest.{in_table}
 use Rattle.first_pass_names.specs.declared.items.Allocations.{Allocations}
-use Rattle.first_pass_names.specs.TableEntries.{names_of, tables_of}
+use Rattle.first_pass_names.specs.TableEntries.{footdefs_of, names_of, tables_of}
 use Rattle.first_pass_open.specs.declared.source.Source.{Source}
 use Rattle.first_pass_kinds.specs.declared.next_front.NextFront.{NextFront}
 use Rattle.first_pass_lists.specs.declared.state.PassState.{PassState}
@@ -52,13 +52,14 @@ pub record PassParts : Type 0 where
   pub state : PassState
   pub allocs : Allocations
 
--- Link reference definitions were put into the table, and nothing else changed. If the entries of the tables were
--- written in the text, they still are (this project).
+-- Link reference definitions were put into the table of links, and nothing else changed. If the entries of the tables
+-- were written in the text, they still are (this project).
 pub record PutsParts (old new : PassParts) : Type 0 where
   pub source : new.source ≡ old.source
   pub front : new.front ≡ old.front
   pub state : new.state ≡ old.state
   pub names : names_of new.allocs ≡ names_of old.allocs
+  pub footnotes : footdefs_of new.allocs ≡ footdefs_of old.allocs
   pub written : TablesAreWritten old.source.text.now old.allocs → TablesAreWritten old.source.text.now new.allocs
 
 -- the same for two passes (this project)

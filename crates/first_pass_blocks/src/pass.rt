@@ -3,7 +3,7 @@
 ghost use Rattle.first_pass_blocks.specs.Progress.{HasSameParts, IsAtPlace, KnowsNext, ReadsBlock, ReadsLeaf};
 ghost use Rattle.first_pass_blocks.specs.Titles.{ReadsTextOrTitle};
 ghost use Rattle.first_pass_blocks.specs.Views.{allocs_of, front_of, state_of, source_options, source_text, tree_of};
-ghost use Rattle.first_pass_blocks.specs.Written.{AreFootnotesWritten};
+ghost use Rattle.first_pass_blocks.specs.Written.{AreFootnotesWritten, HasFirstLabels};
 ghost use Rattle.first_pass_containers.specs.Positions.{LineAt, TaskAt, TaggedAt};
 ghost use Rattle.first_pass_containers.specs.Starts.{IsAfterMarker};
 ghost use Rattle.first_pass_definitions.specs.Found.{AreWritten};
@@ -71,6 +71,7 @@ impl<'a> BlockPass<'a> {
         ensures order { IfOk result (λ pass. IsReadTo text.now (state_of pass) 0) }
         ensures root { IfOk result (λ pass. length (tree_of pass).nodes ≡ 1) }
         ensures named { IfOk result (λ pass. AreNamed (names_of (allocs_of pass)) (tree_of pass).nodes) }
+        ensures labels { IfOk result (λ pass. HasFirstLabels (allocs_of pass) (tree_of pass).nodes) }
         ensures tables { IfOk result (λ pass. HasWholeTables (names_of (allocs_of pass)) (tree_of pass)) }
         ensures front { IfOk result (λ pass. (front_of pass).is_known ≡ false) }
     {
@@ -102,7 +103,8 @@ impl<'a> BlockPass<'a> {
     ///
     /// If each entry of the definition tables was written in the text, each still is. Its parts are borrowed from the
     /// text if nothing in them changes: the label, the destination and a title of one line of a link definition, and
-    /// the label of a footnote (CommonMark 4.7, and this project).
+    /// the label of a footnote (CommonMark 4.7, and this project). If the table of footnotes had copies of the first
+    /// labels that the nodes name, it still has.
     ///
     /// If each index in the nodes names an entry and no row of a table is open, whole tables stay whole: rows are only
     /// one level below a table, and cells only two levels below one. Each row has as many cells as its table has
@@ -337,8 +339,9 @@ impl<'a> BlockPass<'a> {
 /// its table has columns. Each cell starts after the one before it or is an inserted cell, and a table has at most
 /// 262,144 inserted cells. Each link definition in the tables is the one that the text has at its range; its label, its
 /// destination and its title have ranges in it, in this order. Its label, its destination and a title of one line, and
-/// the label of each footnote, are borrowed from the text if nothing in them changes. Use counts of footnotes are 0.
-/// Fails only if an allocation fails.
+/// the label of each footnote, are borrowed from the text if nothing in them changes. Each label in the table of
+/// footnotes is a copy of the string that the first footnote definition with a matching label names, and is borrowed if
+/// that is. Use counts of footnotes are 0. Fails only if an allocation fails.
 pub fn run_first_pass<'a>(
     alloc: Global,
     text: &'a str,
@@ -357,6 +360,7 @@ pub fn run_first_pass<'a>(
     ensures named { IfOk result (λ answer. AreNamed (names_of answer.1) answer.0.nodes) }
     ensures links { IfOk result (λ answer. AreWritten text.now (refdefs_of answer.1)) }
     ensures footnotes { IfOk result (λ answer. AreFootnotesWritten text.now (footdefs_of answer.1)) }
+    ensures labels { IfOk result (λ answer. HasFirstLabels answer.1 answer.0.nodes) }
     ensures tables { IfOk result (λ answer. AreWholeTables (names_of answer.1) answer.0.nodes) }
 {
     let mut pass = BlockPass::new(alloc, text, options)?;

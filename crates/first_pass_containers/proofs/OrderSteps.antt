@@ -28,6 +28,7 @@ use Rattle.first_pass_ready.proofs.EnterLemmas.{ready_blank_line}
 use Rattle.first_pass_ready.proofs.OldFootnotes.{ends_here}
 use Rattle.first_pass_grammar.specs.declared.kind.Container.{Container}
 use Rattle.first_pass_order.proofs.CountLemmas.{count, popped_count}
+use Rattle.first_pass_order.proofs.FootnotesKept.{popped_notes}
 use Rattle.first_pass_order.proofs.NamedLemmas.{popped_named}
 use Rattle.first_pass_containers.specs.Entering.{KeepsState}
 use Rattle.first_pass_items.specs.declared.item.ItemBody.TheVariants.{BlockQuote as BlockQuoteBody, ListItem as ListItemBody}
@@ -310,13 +311,15 @@ list_finished_blank at r = let q : PassState = list_closed at (empty_item_closed
 
 -- what is kept if no node is closed, if nodes are closed after others, and if one is
 pub state_kept : (r : PassState) (e : ℕ) → KeepsState r r e
-state_kept r e = record { order = λ text within boundary h. h; count = omega arith; named = λ names h. h; tables = λ names h. h }
+state_kept r e =
+    record { order = λ text within boundary h. h; count = omega arith; named = λ names h. h; footnotes = refl; tables = λ names h. h }
 
 pub kept_both : (a b c : PassState) (e : ℕ) → KeepsState a b e → KeepsState b c e → KeepsState a c e
 kept_both a b c e one two = record {
   order = λ text within boundary h. two.order text within boundary (one.order text within boundary h);
   count = (let first = one.count in let more = two.count in omega arith);
   named = λ names h. two.named names (one.named names h);
+  footnotes = two.footnotes ∙ one.footnotes;
   tables = λ names h. two.tables names (one.tables names h);
 }
 
@@ -326,6 +329,7 @@ popped_kept e r tables = record {
   order = λ text within boundary h. read_popped text r e e (omega arith) within boundary h;
   count = popped_count e (count r) r (omega arith);
   named = λ names h. popped_named names e r h;
+  footnotes = popped_notes e r;
   tables = tables;
 }
 
@@ -393,5 +397,6 @@ one_read source start at r u kept stays within boundary line s =
           (ordered_blank_line options text r r at u within boundary (λ o. o) (λ h uncounted. refl) (s.order ordered)));
       node_bound = λ first grows. let g = s.node_bound first grows in omega arith;
       named = λ names h. h;
+      footnotes = refl;
       tables = λ names h. h;
     }

@@ -18,6 +18,7 @@ use Rattle.first_pass_open.specs.declared.source.Source.{Source}
 use Rattle.first_pass_lists.specs.Closing.{popped}
 use Rattle.first_pass_lists.specs.declared.state.PassState.{PassState}
 use Rattle.first_pass_ready.specs.State.{NoMore, Ready}
+use Rattle.first_pass_order.specs.Footnotes.{footnotes_in}
 use Rattle.first_pass_order.specs.Ordered.{IsReadTo}
 use Rattle.first_pass_containers.specs.Positions.{LineAt, InLine, IsInLine, ReadsTo}
 
@@ -27,11 +28,12 @@ all_popped zero at r = r
 all_popped (suc n) at r = all_popped n at (popped at r)
 
 -- If a state was in order up to an offset, it still is. No node is added, every index that named an entry still does,
--- and whole tables stay whole (this project).
+-- the footnote definitions name the same indices, and whole tables stay whole (this project).
 pub record KeepsState (old new : PassState) (ix : ℕ) : Type 0 where
   pub order : (text : List ℕ) → ix ≤ length text → IsCharBoundary text ix → IsReadTo text old ix → IsReadTo text new ix
   pub count : counted_nodes new.tree.nodes ≤ counted_nodes old.tree.nodes
   pub named : (names : Names) → AreNamed names old.tree.nodes → AreNamed names new.tree.nodes
+  pub footnotes : footnotes_in new.tree.nodes ≡ footnotes_in old.tree.nodes
   pub tables : (names : Names) → HasWholeTables names old.tree → HasWholeTables names new.tree
 
 -- The open nodes except the outermost `kept` are closed at an offset. No path of containers changes. If the lines

@@ -24,6 +24,7 @@ use Rattle.first_pass_open.specs.Between.{MarkerBetween}
 use Rattle.first_pass_lists.specs.Closing.{top_body, is_list, may_begin_definition}
 use Rattle.first_pass_lists.specs.declared.state.PassState.{PassState}
 use Rattle.first_pass_ready.specs.State.{Ready, ReadyAt}
+use Rattle.first_pass_order.specs.Footnotes.{footnotes_in}
 use Rattle.first_pass_order.specs.Ordered.{AreNested, CanClose, IsReadFrom}
 
 -- the start of a line; in a line, where a container may begin; in a line, where none does, or after the tag of a
@@ -140,11 +141,13 @@ IsNotBefore text p q = IsPlaceOf text q × (p.line ≤ q.line) × (offset p ≤ 
 
 -- Reading came from one position to another, in a line that begins at an offset. If the state began a derivation at
 -- the first, it begins one at the second. If it was in order, it still is, and it grew by at most four nodes for each
--- byte. Every index that named an entry still does, and whole tables stay whole.
+-- byte. Every index that named an entry still does, the footnote definitions name the same indices, and whole tables
+-- stay whole.
 pub record ReadsTo (source : Source) (line : ℕ) (old new : PassState) (from to : Position) : Type 0 where
   pub ready : (names : Names) (defined : Tables)
       → ReadyOn (document source.text.now source.options names) defined old from → ReadyOn (document source.text.now source.options names) defined new to
   pub order : OrderedOn source.options source.text.now old from → OrderedOn source.options source.text.now new to
   pub node_bound : (first : List (ℕ × Item)) → GrowsTo source.text.now line first old.tree.nodes from → GrowsTo source.text.now line first new.tree.nodes to
   pub named : (names : Names) → AreNamed names old.tree.nodes → AreNamed names new.tree.nodes
+  pub footnotes : footnotes_in new.tree.nodes ≡ footnotes_in old.tree.nodes
   pub tables : (names : Names) → HasWholeTables names old.tree → HasWholeTables names new.tree

@@ -5,7 +5,7 @@ use Rattle.std.proofs.Common.{None, is_some, refl, ap, ◌∙◌, bit_and, optio
 use Rattle.first_pass_grammar.proofs.Common.{cond_both, same_Some, Item, ItemBody, Paragraph, DefinitionList, DefinitionListDefinition, DefinitionListTitle}
 use Rattle.first_pass_grammar.proofs.Common.{MaybeDefinitionListTitle, TreeIndex, body_of, Forest, depths, modify, with_body_at, body_at, item_at, pushed}
 use Rattle.first_pass_grammar.proofs.Common.{tight_body, tightened, tight_run, tight_at, tight_items, list_flags, is_row, is_cell, Names, index_of, Mark}
-use Rattle.first_pass_grammar.proofs.Common.{shown, may_be_title}
+use Rattle.first_pass_grammar.proofs.Common.{shown, may_be_title, CowIndex}
 use Rattle.first_pass_items.specs.declared.item.ItemBody.TheVariants.{List as ListBody, ListItem as ListItemBody}
 use Rattle.first_pass_tree.specs.Forest.{wrapped}
 use Rattle.first_pass_grammar.specs.Names.{Index}
@@ -13,15 +13,17 @@ use Rattle.first_pass_lists.specs.Closing.{is_list, is_item, is_definition_list,
 use Rattle.first_pass_lists.specs.Closing.{item_without_indent, definition_without_indent, blank_read_by, blank_read, definitions_by, definitions_at}
 use Rattle.first_pass_lists.specs.Closing.{loosened_top, list_kept, definitions_opened, with_current}
 use Rattle.first_pass_lists.specs.declared.state.PassState.{PassState}
+use Rattle.first_pass_order.specs.Footnotes.{footnote_in}
 use Rattle.first_pass_order.proofs.OrderLemmas.{flags_of}
 
 -- whether a node is a list, an item or a definition list
 abbrev pub class_of : Option ItemBody → Bool × Bool × Bool
 class_of b = (is_list b, is_item b, is_definition_list b)
 
--- the properties of a body for tables, order, nesting and names
-abbrev pub features : ItemBody → Bool × Bool × (Bool × Bool × Bool × Bool) × (Bool × Bool × Bool) × Option Index × (Names → ℕ → ℕ → ℕ → List Mark)
-features b = (is_row b, is_cell b, flags_of b, class_of (Some b), index_of b, λ names depth start end. shown names depth start end b)
+-- the properties of a body for tables, order, nesting, names and footnotes
+abbrev pub features : ItemBody
+    → Bool × Bool × (Bool × Bool × Bool × Bool) × (Bool × Bool × Bool) × Option Index × (Names → ℕ → ℕ → ℕ → List Mark) × List CowIndex
+features b = (is_row b, is_cell b, flags_of b, class_of (Some b), index_of b, λ names depth start end. shown names depth start end b, footnote_in b)
 
 -- another body with the same properties; it is a text that a definition list may take in only if the first one is
 abbrev pub IsBodyLike : ItemBody → ItemBody → Type 0

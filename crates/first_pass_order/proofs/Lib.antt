@@ -3,6 +3,7 @@ pub mod CountLemmas
 pub mod DefinitionBegun
 pub mod DefinitionOrder
 pub mod DefinitionsWhole
+pub mod FootnotesKept
 pub mod HeadLines
 pub mod InsertedCells
 pub mod LeftOrder

@@ -215,19 +215,24 @@ module _ (p : Property) where
       p.opened start start (suc k) (list_continued start byte number r).tree (ListItemBody columns) there starts opens
       (list_continued_keeps a start byte number k r h (here, goes, there, starts) lists)
 
+  -- before a footnote definition is opened
+  pub note_left_keeps : (a start k : ℕ) (r : PassState) → HoldsBefore a k r → p.Goes a start → p.Goes start start → p.Bounds start
+      → p.Holds start k (gap_marked (footnote_left start (list_closed start (empty_item_closed r)))).tree
+  note_left_keeps a start k r h goes there starts =
+      let s : PassState = empty_item_closed r in
+      let l : PassState = list_closed start s in
+      noted_keeps start k (footnote_left start l)
+      (left_by start start start k l (is_footnote (top_body l.tree)) (λ note. (none_leaves start l.tree (note_untitled l.tree note), there)) starts there there
+      (left_by a start start k s (is_list (top_body s.tree)) (λ list. (empty_item_closed_leaves a r h.leaves, goes)) starts there goes
+      (empty_item_closed_keeps a k r h.held)))
+
   -- a footnote definition is opened
   pub note_keeps : (a start k : ℕ) (index : CowIndex) (r : PassState) → HoldsBefore a k r → p.Goes a start → p.Goes start start → p.Bounds start
       → p.Opens (FootnoteDefinitionBody index) → p.Holds start (suc k) (footnote_begun start index r).tree
   unfolding footnote_begun
   note_keeps a start k index r h goes there starts opens =
-      let s : PassState = empty_item_closed r in
-      let l : PassState = list_closed start s in
-      let q : PassState = footnote_left start l in
-      p.opened start start k (gap_marked q).tree (FootnoteDefinitionBody index) there starts opens
-      (noted_keeps start k q
-      (left_by start start start k l (is_footnote (top_body l.tree)) (λ note. (none_leaves start l.tree (note_untitled l.tree note), there)) starts there there
-      (left_by a start start k s (is_list (top_body s.tree)) (λ list. (empty_item_closed_leaves a r h.leaves, goes)) starts there goes
-      (empty_item_closed_keeps a k r h.held))))
+      let q : PassState = footnote_left start (list_closed start (empty_item_closed r)) in
+      p.opened start start k (gap_marked q).tree (FootnoteDefinitionBody index) there starts opens (note_left_keeps a start k r h goes there starts)
 
   -- a definition is opened, in a list that is open
   pub definition_keeps : (a start columns k : ℕ) (r : PassState) → p.Goes a start → p.Bounds start → p.Opens (DefinitionListDefinition columns)

@@ -1,3 +1,4 @@
+pub mod Footnotes
 pub mod LeafBlocks
 pub mod Ordered
 pub mod Settled

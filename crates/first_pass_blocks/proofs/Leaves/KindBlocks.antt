@@ -24,7 +24,10 @@ use Rattle.first_pass_raw.specs.RawBlocks.{IsPlaceAt, AddsRaw, html_to_end, code
 use Rattle.first_pass_blocks.specs.declared.state.BlockPass.{BlockPass}
 use Rattle.first_pass_containers.proofs.OrderSteps.{ordered_tree}
 use Rattle.first_pass_blocks.proofs.LinkDefinitions.{written_stay}
+use Rattle.first_pass_names.specs.TableEntries.{Entries}
+use Rattle.first_pass_order.proofs.FootnotesKept.{kind_notes, block_notes, list_finished_notes}
 use Rattle.first_pass_order.proofs.NamedLemmas.{kind_named}
+use Rattle.first_pass_blocks.proofs.FootnoteLabels.{labels_stay}
 use Rattle.first_pass_order.proofs.WholeKept.{kind_whole}
 use Rattle.first_pass_containers.proofs.Leaves.FirstItems.{kind_silent}
 use Rattle.first_pass_order.specs.Ordered.{AreNested, IsOrderedFrom}
@@ -432,6 +435,9 @@ module _ (old new : BlockPass) (p : Place) (kind : Kind) (next : ℕ) (here : Is
           named = λ h. block_added own before ended (tree_of new) block.items more.names block.tree_is
               (kind_named text options own p kind gap ended (tree_of new) next block) (list_finished_named before p.line r h);
           written = written_stay text (allocs_of old) (allocs_of new) more.entries;
+          footnotes = labels_stay (allocs_of old) (allocs_of new) (tree_of old).nodes (tree_of new).nodes more.names
+              (block_notes ended (tree_of new) block.items block.tree_is (kind_notes text options own p kind gap ended (tree_of new) next block)
+              ∙ list_finished_notes p.line r) (ap (λ (e : Entries). e.footnotes) more.entries);
           tables = λ h k. block_whole own before ended (tree_of new) block.items more.names block.tree_is
               (kind_whole text options own p kind gap ended (tree_of new) next here.place block)
               (kind_silent text options own p kind gap ended (tree_of new) next block) (list_finished_named before p.line r h)

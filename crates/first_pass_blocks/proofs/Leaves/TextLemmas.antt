@@ -31,7 +31,11 @@ use Rattle.first_pass_containers.proofs.Leaves.FirstItems.{text_silent_first, te
 use Rattle.first_pass_containers.proofs.OrderSteps.{upto_later}
 use Rattle.first_pass_containers.proofs.Leaves.LeafLemmas.{ready_ended, text_away, opens_flow, text_opens, ready_kept, away_left}
 use Rattle.first_pass_ready.proofs.LeftBlocks.{left_is}
+use Rattle.first_pass_names.specs.TableEntries.{Entries, footdefs_of}
+use Rattle.first_pass_order.specs.Footnotes.{footnotes_in}
+use Rattle.first_pass_order.proofs.FootnotesKept.{notes, NamesNone, block_notes, text_notes, task_names_none, list_finished_notes, title_begun_notes}
 use Rattle.first_pass_order.proofs.NamedLemmas.{title_begun_named, task_has_none}
+use Rattle.first_pass_blocks.proofs.FootnoteLabels.{labels_stay}
 use Rattle.first_pass_order.proofs.DefinitionsWhole.{title_begun_whole}
 use Rattle.first_pass_order.proofs.WholeKept.{added_text_whole, task_shows}
 use Rattle.first_pass_blocks.proofs.LinkDefinitions.{written_stay, run_is_empty, puts_none}
@@ -105,6 +109,8 @@ run_line old mid new p line next is_at kind definitions source allocs state =
         names = extends_equal _ _ named;
         named = λ h. rw (following, named) (list_finished_named (names_of (allocs_of old)) q.line r h);
         written = λ h. subst (λ z. TablesAreWritten text z) (sym allocs) (definitions.kept.written h);
+        footnotes = labels_stay (allocs_of old) (allocs_of new) (tree_of old).nodes (tree_of new).nodes (extends_equal _ _ named)
+            (ap notes following ∙ list_finished_notes q.line r) (ap footdefs_of allocs ∙ definitions.kept.footnotes);
         tables = λ h k. rw (following, named) (list_finished_whole (names_of (allocs_of old)) q.line r is_at.forest k);
       };
       later = omega arith;
@@ -141,6 +147,7 @@ record ReadsText (old new : BlockPass) (p q : Place) (next : ℕ) : Type 0 where
       → (AreNamed (names_of (allocs_of old)) (tree_of old).nodes → AreNamed (names_of (allocs_of new)) (tree_of new).nodes)
       × (AreNamed (names_of (allocs_of old)) (tree_of old).nodes → HasWholeTables (names_of (allocs_of old)) (tree_of old)
       → HasWholeTables (names_of (allocs_of new)) (tree_of new))
+  footnotes : notes (state_of new) ≡ notes (state_of old)
 
 -- the paragraph that follows them, or that begins there
 run_text : (old mid new : BlockPass) (p : Place) (at next : ℕ) → IsStateAtPlace (source_text old) (state_of old) p
@@ -164,6 +171,8 @@ run_text old mid new p at next is_at kind definitions source adds t =
         names = more_named;
         named = (t.kept more_named).0;
         written = λ h. written_stay text (allocs_of mid) (allocs_of new) adds.entries (definitions.kept.written h);
+        footnotes = labels_stay (allocs_of old) (allocs_of new) (tree_of old).nodes (tree_of new).nodes more_named t.footnotes
+            (ap (λ (e : Entries). e.footnotes) adds.entries ∙ definitions.kept.footnotes);
         tables = (t.kept more_named).1;
       };
       later = omega arith;
@@ -189,6 +198,13 @@ text_kept d names old new q marker next block stands mark more =
           (added_text_whole d _ q marker _ _ stands (mark_has ShowsNothing task_shows marker mark) is)
           (text_silent_first d _ q marker _ _ mark is) h (kept_of names old k),
     )
+
+-- an added text has no footnote definition
+pub text_unnoted : (d : Document) (old new : Forest Item) (q : Place) (marker : Option Item) (next : ℕ)
+    → AddsText d (offset q) marker old new next → IsPlaceOf d.text q → IsTaskMark marker → footnotes_in new.nodes ≡ footnotes_in old.nodes
+text_unnoted d old new q marker next block stands mark =
+    block_notes old new block.items block.tree_is
+    (text_notes d _ q marker _ _ (mark_has NamesNone task_names_none marker mark) (block.is_text d.names (extends_none d.names) q stands refl))
 
 -- whether a paragraph was read
 first_begins : (k : ℕ) (items : List (ℕ × Item)) → option_map_or is_paragraph_body (body_at (at_depth k items) 0) false ≡ begins_paragraph items
@@ -252,6 +268,8 @@ module _ (old new : BlockPass) (p q : Place) (next : ℕ) (is_at : IsStateAtPlac
       λ h. added.0 (list_finished_named before ends r h),
       λ h k. added.1 (list_finished_named before ends r h) (list_finished_whole before ends r is_at.forest k),
     );
+    footnotes = text_unnoted (document text options own) (list_finished ends r).tree (tree_of new) q None next block stands tt
+        ∙ list_finished_notes ends r;
   }
 
   -- a text that is not right after a definition
@@ -311,6 +329,8 @@ module _ (old new : BlockPass) (p q : Place) (next : ℕ) (is_at : IsStateAtPlac
             λ h. rw is (title_begun_named own last (with_tree r read) (added.0 h)),
             λ h k. rw is (title_begun_whole own last (with_tree r read) current (added.1 h k)),
           );
+          footnotes = ap notes is ∙ title_begun_notes last (with_tree r read) current
+              ∙ text_unnoted (document text options own) r.tree read q None next block stands tt;
         }
 
     -- a heading or a table

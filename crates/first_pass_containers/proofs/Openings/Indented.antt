@@ -177,7 +177,7 @@ pub leaf_there : (source : Source) (r : PassState) (p : Place) (line : ℕ) → 
     → ReadyOn (document source.text.now source.options names) defined r (InLine p)
     → ReadyOn (document source.text.now source.options names) defined r (LeafAt p)) → ReadsTo source line r r (InLine p) (LeafAt p)
 leaf_there source r p line ready =
-    record { ready = ready; order = λ h. h; node_bound = λ first h. h; named = λ names h. h; tables = λ names h. h }
+    record { ready = ready; order = λ h. h; node_bound = λ first h. h; named = λ names h. h; footnotes = refl; tables = λ names h. h }
 
 -- so a leaf block is there
 pub only_leaf : (source : Source) (r : PassState) (p : Place) (line : ℕ) → BeginsNoContainer p.rest → ReadsTo source line r r (InLine p) (LeafAt p)

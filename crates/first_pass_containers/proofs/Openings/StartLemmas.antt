@@ -29,6 +29,7 @@ use Rattle.first_pass_containers.specs.Starts.{StartMatches, start_opened, after
 use Rattle.first_pass_containers.proofs.Openings.Indented.{start_told, start_is, may_if, leaf_there}
 use Rattle.first_pass_ready.specs.State.{ReadyAt}
 use Rattle.first_pass_lists.proofs.NoEmptyItem.{list_finished_none, list_continued_none, item_opened, footnote_begun_none}
+use Rattle.first_pass_order.proofs.FootnotesKept.{item_notes, definition_notes, quote_notes, child_notes}
 use Rattle.first_pass_order.proofs.NamedLemmas.{item_named, definition_named, quote_named, child_named}
 use Rattle.first_pass_order.proofs.WholeKept.{item_whole, quote_whole, child_whole}
 use Rattle.first_pass_order.proofs.DefinitionsWhole.{definition_whole}
@@ -48,7 +49,7 @@ use Rattle.first_pass_ready.proofs.DefinitionOpened.{list_class}
 -- no step
 pub reads_none : (source : Source) (line : ℕ) (r : PassState) (p : Position) → ReadsTo source line r r p p
 reads_none source line r p =
-    record { ready = λ names defined h. h; order = λ h. h; node_bound = λ first h. h; named = λ names h. h; tables = λ names h. h }
+    record { ready = λ names defined h. h; order = λ h. h; node_bound = λ first h. h; named = λ names h. h; footnotes = refl; tables = λ names h. h }
 
 -- the number of nodes that are added with an item with something after its markers, which end at two offsets
 container_count : (text : List ℕ) (line mid e : ℕ) (q : Place) (first new : List (ℕ × Item)) (marker : Option Item)
@@ -165,6 +166,7 @@ module _ (source : Source) (r : PassState) (p : Place) (utf8 : IsUtf8 source.tex
                   (stands (offset p) mark)));
               node_bound = λ first grows. let one = child_count opened_item.tree marker in omega arith;
               named = λ names h. child_named names opened_item.tree marker is_task (item_named names (offset p) byte number columns r h);
+              footnotes = child_notes opened_item.tree marker is_task ∙ item_notes (offset p) byte number columns r;
               tables = λ names h. child_whole names opened_item.tree marker is_task (item_whole names (offset p) byte number columns r forest h);
             },
           )
@@ -186,6 +188,7 @@ module _ (source : Source) (r : PassState) (p : Place) (utf8 : IsUtf8 source.tex
                       (omega arith) (stands (offset (place_at p.line following)) (omega arith)) (λ x task.
                       offset_before text p.line following rest k.0 j.0 (mark_shorter source.options p.line following rest marker x refl refl task));
                   named = λ names h. item_named names (offset p) byte number columns r h;
+                  footnotes = item_notes (offset p) byte number columns r;
                   tables = λ names h. item_whole names (offset p) byte number columns r forest h;
                 },
               )
@@ -230,6 +233,7 @@ module _ (source : Source) (r : PassState) (p : Place) (utf8 : IsUtf8 source.tex
               );
               node_bound = λ first grows. let one = quote_count p.line (quote_start p) (BlockQuoteBody None) r in omega arith;
               named = λ names h. quote_named names p.line (quote_start p) (BlockQuoteBody None) r tt h;
+              footnotes = quote_notes p.line (quote_start p) (BlockQuoteBody None) r refl;
               tables = λ names h. quote_whole names p.line (quote_start p) (BlockQuoteBody None) r (λ names depth start end. refl) refl forest h;
             },
           )
@@ -246,6 +250,7 @@ module _ (source : Source) (r : PassState) (p : Place) (utf8 : IsUtf8 source.tex
                   (ordered_quote text r p.line (offset p) (quote_start p) (Some kind) (new_quote s.0 s.2 ordered));
               node_bound = λ first grows. let one = quote_count p.line (quote_start p) (BlockQuoteBody (Some kind)) r in omega (arith, there, j.1);
               named = λ names h. quote_named names p.line (quote_start p) (BlockQuoteBody (Some kind)) r tt h;
+              footnotes = quote_notes p.line (quote_start p) (BlockQuoteBody (Some kind)) r refl;
               tables = λ names h. quote_whole names p.line (quote_start p) (BlockQuoteBody (Some kind)) r (λ names depth start end. refl) refl forest h;
             },
           )
@@ -285,6 +290,7 @@ module _ (source : Source) (r : PassState) (p : Place) (utf8 : IsUtf8 source.tex
               order = λ ordered. inl (ordered_empty_definition text (offset p) e columns r (place_before_end p) ends (ordered_in ordered.1));
               node_bound = λ first grows. omega (arith, there, j.1);
               named = named;
+              footnotes = definition_notes (offset p) columns r;
               tables = tables;
             },
           )
@@ -301,6 +307,7 @@ module _ (source : Source) (r : PassState) (p : Place) (utf8 : IsUtf8 source.tex
                   (ordered_in ordered.1) (let low : offset p ≤ offset (at_rest p rest) = omega arith in low);
               node_bound = λ first grows. omega arith;
               named = named;
+              footnotes = definition_notes (offset p) columns r;
               tables = tables;
             },
           )

@@ -2,6 +2,8 @@ use Rattle.std.proofs.Common.{◌≡◌, ◌≤◌, inl, inr, ℕ, List, [], len
 use Rattle.first_pass_grammar.proofs.Common.{IsCharBoundary-start, IsCharBoundary-end, lines_at-end, document, Options, Derives}
 use Rattle.first_pass_blocks.proofs.Common.{PassState, reached, IsReadTo, IsReadFrom, Ready, names_of, tables_in, tables_of, extends_equal}
 use Rattle.first_pass_blocks.proofs.BlockRead.{block_more, lines_more, room_made}
+use Rattle.first_pass_names.specs.TableEntries.{Entries}
+use Rattle.first_pass_blocks.proofs.FootnoteLabels.{labels_stay}
 use Rattle.first_pass_blocks.proofs.LinkDefinitions.{none_written}
 use Rattle.first_pass_grammar.proofs.Count.CountedNodes.{own_at_most}
 use Rattle.first_pass_order.proofs.InsertedCells.{all_nodes}
@@ -24,6 +26,7 @@ loop-ix-init c = record {
     order = inl c.in_ok-pass.ensures.order;
     named = c.in_ok-pass.ensures.named;
     written = none_written c.args.text.now c.in_ok-pass.pass.allocs c.in_ok-pass.ensures.empty;
+    footnotes = c.in_ok-pass.ensures.labels;
     node_bound = (let root = c.in_ok-pass.ensures.root in let most = own_at_most None c.in_ok-pass.pass.state.tree.nodes in omega arith);
   };
   within = c.sample_end-part_end.ensures.within;
@@ -93,6 +96,12 @@ returns-clause-only c =
 pub returns-clause-tables : goal.returns-clause-tables
 returns-clause-tables c =
     derived_whole _ c.close_containers.new.state.tree.nodes (tables_of c.sort_tables.new.self) (returns-clause-derived c)
+
+pub returns-clause-labels : goal.returns-clause-labels
+returns-clause-labels c =
+    labels_stay c.loop-ix.pass.allocs c.sort_tables.new.self c.loop-ix.pass.state.tree.nodes c.close_containers.new.state.tree.nodes
+    (extends_equal _ _ c.sort_tables.ensures.names) c.close_containers.ensures.kept.state.footnotes
+    (ap (λ (e : Entries). e.footnotes) c.sort_tables.ensures.entries) c.loop-ix.invariant.read.footnotes
 
 pub returns-clause-settled : goal.returns-clause-settled
 returns-clause-settled c =

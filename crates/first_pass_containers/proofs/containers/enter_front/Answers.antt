@@ -7,6 +7,8 @@ use Rattle.first_pass_lists.specs.declared.state.PassState.{PassState}
 use Rattle.first_pass_order.specs.Ordered.{IsReadTo}
 use Rattle.first_pass_containers.specs.Entering.{place_entered, KeepsState}
 use Rattle.first_pass_containers.specs.Positions.{OrderedUpTo}
+use Rattle.first_pass_order.specs.Footnotes.{footnotes_in}
+use Rattle.first_pass_order.proofs.FootnotesKept.{blank_notes, empty_item_closed_notes}
 use Rattle.first_pass_order.proofs.NamedLemmas.{blank_named, empty_item_closed_named}
 use Rattle.first_pass_order.proofs.WholeKept.{blank_whole, empty_item_closed_whole, popped_plain_whole}
 use Rattle.first_pass_order.proofs.CountLemmas.{count, empty_item_closed_count, blank_count}
@@ -103,6 +105,7 @@ returns-then-is_some-clause-entered c =
           c.requires.front.stops h).0)) ordered));
       node_bound = λ first grows. omega arith;
       named = λ names h. rw c.read_blank_line.ensures (blank_named names now (kept.named names h));
+      footnotes = ap (λ (q : PassState). footnotes_in q.tree.nodes) c.read_blank_line.ensures ∙ blank_notes now ∙ kept.footnotes;
       tables = λ names h. rw c.read_blank_line.ensures (blank_whole names now (kept.tables names h));
     }
 
@@ -139,6 +142,7 @@ returns-clause-entered c =
             let none = blank a ∙ c.if-is_some.false in cc) ordered));
         node_bound = λ first grows. omega arith;
         named = λ names h. rw c.finish_empty_list_item.ensures (empty_item_closed_named names now (kept.named names h));
+        footnotes = ap (λ (q : PassState). footnotes_in q.tree.nodes) c.finish_empty_list_item.ensures ∙ empty_item_closed_notes now ∙ kept.footnotes;
         tables = λ names h. rw c.finish_empty_list_item.ensures (empty_item_closed_whole names now (kept.tables names h));
       },
     )

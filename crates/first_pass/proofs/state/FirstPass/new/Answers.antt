@@ -13,6 +13,7 @@ returns c =
       order = new_closable c.args.text.now c.in_ok-pass.pass.state c.recall_forest.ensures e.root e.order;
       root = e.root;
       named = e.named;
+      labels = e.labels;
       tables = e.tables;
       braces = search rules;
     }

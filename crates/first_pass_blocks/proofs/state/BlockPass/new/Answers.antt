@@ -1,10 +1,12 @@
-use Rattle.std.proofs.Common.{length, None, false, refl, arith}
+use Rattle.std.proofs.Common.{length, None, false, refl, arith, rules}
 use Rattle.first_pass_blocks.proofs.Common.{state_with, ordered_none}
+use Rattle.first_pass_order.proofs.FootnotesKept.{first_notes}
 use Rattle.first_pass_order.proofs.NamedLemmas.{first_named}
 use Rattle.first_pass_order.proofs.Nests.{first_closes}
 use Rattle.first_pass_order.proofs.OrderLemmas.{ordered_first}
 use Rattle.first_pass_order.proofs.WholeKept.{first_whole}
 use Rattle.first_pass_ready.proofs.StateLemmas.{ready_first}
+use Rattle.first_pass_blocks.proofs.FootnoteLabels.{labels_none}
 use Rattle.first_pass_blocks.proofs.state.BlockPass.new.Goals as goal
 
 pub returns-clause-ready : goal.returns-clause-ready
@@ -29,3 +31,8 @@ returns-clause-named c =
 pub returns-clause-tables : goal.returns-clause-tables
 returns-clause-tables c =
     first_whole _ c.set_end.new.self c.root-root.result (length c.args.text.now) (rw c.in_ok-tree.ensures at c.set_end.ensures)
+
+pub returns-clause-labels : goal.returns-clause-labels
+returns-clause-labels c =
+    labels_none _ c.set_end.new.self.nodes _
+    (first_notes c.set_end.new.self c.root-root.result (length c.args.text.now) (rw c.in_ok-tree.ensures at c.set_end.ensures)) (search rules)

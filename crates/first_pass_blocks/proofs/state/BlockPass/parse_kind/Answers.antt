@@ -8,10 +8,12 @@ use Rattle.first_pass_kinds.specs.declared.kinds.MarkedLeaf.{MarkedLeaf}
 use Rattle.first_pass_order.proofs.CountLemmas.{blank_count}
 use Rattle.first_pass_blocks.proofs.Leaves.KindBlocks.{html_read, leaf_read, marked_leaf, columns_are, stands_at, AddsHtml}
 use Rattle.first_pass_containers.proofs.Leaves.LeafLemmas.{ready_blank_leaf}
+use Rattle.first_pass_order.proofs.FootnotesKept.{notes, blank_notes}
 use Rattle.first_pass_order.proofs.NamedLemmas.{blank_named}
 use Rattle.first_pass_order.proofs.PopOrder.{read_blank_read}
 use Rattle.first_pass_order.proofs.WholeKept.{blank_whole}
 use Rattle.first_pass_blocks.proofs.BlockRead.{state_at}
+use Rattle.first_pass_blocks.proofs.FootnoteLabels.{labels_stay}
 use Rattle.first_pass_blocks.proofs.state.BlockPass.parse_kind.Goals as goal
 
 pub next_line-requires : goal.next_line-requires
@@ -42,6 +44,8 @@ returns-in-Blank-clause-block c =
         names = extends_none _;
         named = λ h. rw c.read_blank_line.ensures (blank_named (names_of self.allocs) old h);
         written = λ h. h;
+        footnotes = labels_stay self.allocs self.allocs old.tree.nodes c.read_blank_line.new.self.tree.nodes (extends_none _)
+            (ap notes c.read_blank_line.ensures ∙ blank_notes old) refl;
         tables = λ h k. rw c.read_blank_line.ensures (blank_whole (names_of self.allocs) old k);
       };
       later = omega arith;

@@ -5,6 +5,7 @@ use Rattle.first_pass_blocks.proofs.LinkDefinitions.{one_written, written_here, 
 use Rattle.first_pass_blocks.proofs.LinkDefinitions.{ReferenceFound, run_begun, run_flows, run_ends, run_goes_on, defined_none, text_at, RunWithOne, stops_at}
 use Rattle.first_pass_blocks.proofs.LinkDefinitions.{rest_at, puts_none, same_answers}
 use Rattle.first_pass_definitions.specs.Found.{IsWritten}
+use Rattle.first_pass_names.specs.TableEntries.{Entries}
 use Rattle.first_pass_blocks.specs.declared.state.BlockPass.{BlockPass}
 use Rattle.first_pass_blocks.proofs.state.BlockPass.parse_run.Goals.{After-rest_of, In_ok-rest}
 use Rattle.first_pass_blocks.proofs.state.BlockPass.parse_run.Goals as goal
@@ -52,6 +53,7 @@ one_put c =
       front = kept.front;
       state = kept.state;
       names = c.in_ok-define_link.ensures.names ∙ kept.names;
+      footnotes = ap (λ (e : Entries). e.footnotes) c.in_ok-define_link.ensures.entries ∙ kept.footnotes;
       written = λ h. one_written text now.allocs c.define_link.new.self label definition c.in_ok-define_link.ensures.entries one (kept.written h);
     }
 

@@ -3,10 +3,12 @@ use Rattle.first_pass_grammar.proofs.Common.{all_taken, unindented, document, of
 use Rattle.first_pass_blocks.proofs.Common.{AddsBetween, MarkerBetween, with_tree, PassState, all_keep, read_to, block_count, unindented_later, tables_of}
 use Rattle.first_pass_blocks.proofs.Common.{tables_in, names_of, line_end_of}
 use Rattle.first_pass_containers.proofs.OrderSteps.{read_block}
+use Rattle.first_pass_names.specs.TableEntries.{Entries}
+use Rattle.first_pass_blocks.proofs.FootnoteLabels.{labels_stay}
 use Rattle.first_pass_blocks.proofs.LinkDefinitions.{written_stay}
 use Rattle.first_pass_order.proofs.NamedLemmas.{task_is_no_text}
 use Rattle.first_pass_containers.proofs.Leaves.LeafLemmas.{ready_text}
-use Rattle.first_pass_blocks.proofs.Leaves.TextLemmas.{text_kept}
+use Rattle.first_pass_blocks.proofs.Leaves.TextLemmas.{text_kept, text_unnoted}
 use Rattle.first_pass_blocks.proofs.state.BlockPass.parse_task_text.Goals as goal
 
 pub offset-requires : goal.offset-requires
@@ -59,6 +61,9 @@ returns-clause-block c =
         names = e.more.names;
         named = kept.0;
         written = written_stay text self.allocs c.parse_text.new.self.allocs e.more.entries;
+        footnotes = labels_stay self.allocs c.parse_text.new.self.allocs old.tree.nodes tree.nodes e.more.names
+            (text_unnoted (document text options now) old.tree tree (unindented p) (Some c.args.marker) next block i mark)
+            (ap (λ (e : Entries). e.footnotes) e.more.entries);
         tables = kept.1;
       };
       later = omega arith;
