@@ -20,7 +20,8 @@ use Rattle.first_pass.proofs.OrderJoin.{IsOrderedBefore, IsRange, front_of, toke
 use Rattle.first_pass.specs.Holds.{AreTokens, AreTokensIn, ContinuesChain, HoldsChain, HoldsTokens}
 
 -- a chain in order, in which each escaped text is after its backslash
-pub tokens_in : (text : List ℕ) (from to : ℕ) (chain : List Item) → AreInOrder text from to chain → EscapesStand text from chain → AreTokensIn text from to chain
+pub tokens_in : (text : List ℕ) (from to : ℕ) (chain : List Item) → AreInOrder text from to chain → EscapesStand text from chain
+    → AreTokensIn text from to chain
 tokens_in text from to [] h e = h
 tokens_in text from to (x ∷ xs) h e = (h.0, h.1, h.2, h.3, e.0, tokens_in text x.«end» to xs h.4 e.1)
 

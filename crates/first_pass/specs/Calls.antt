@@ -223,14 +223,15 @@ pub record AppendsTokens (old new : FirstPass) (start : ℕ) (end : Option ℕ) 
   pub node_bound : length (tree_of new).nodes ≤ length (tree_of old).nodes + (stop - start)
 
 -- What a line that is read, with the returned line break, does to the open nodes, if its ends are character boundaries.
--- They can still be closed if the break is appended. If the innermost of them contains a chain up to the line, it
--- contains one up to the returned offset (CommonMark 6.7, 6.8, and this project).
+-- They can still be closed if the break is appended. If the innermost of them contains a chain up to an offset that is
+-- not after the line's start, it contains one up to the returned offset. So a line may begin after container prefixes
+-- (CommonMark 6.7, 6.8, and this project).
 pub record ContinuesBlock (old new : FirstPass) (start : ℕ) (end : Option ℕ) (answer : ℕ × Option Item) : Type 0 where
   pub broken : IfSome end (λ e. IsCharBoundary (source_text old) e) → IsCharBoundary (source_text old) start → (at : ℕ) → at ≤ start
       → IsClosable (source_text old) (state_of old) at
       → IfSome answer.1 (λ x. is_break x.body ≡ true → IsClosable (source_text old) (with_tree (state_of new) (appended (tree_of new) x)) answer.0)
-  pub chain : IfSome end (λ e. IsCharBoundary (source_text old) e) → IsCharBoundary (source_text old) start → (block : TreeIndex)
-      → HoldsChain (source_text old) (tree_of old) block start → ContinuesChain (source_text old) (tree_of new) block answer
+  pub chain : IfSome end (λ e. IsCharBoundary (source_text old) e) → IsCharBoundary (source_text old) start → (block : TreeIndex) (to : ℕ)
+      → to ≤ start → HoldsChain (source_text old) (tree_of old) block to → ContinuesChain (source_text old) (tree_of new) block answer
 
 -- the same unless a cell is read, which no block with text contains (GFM 4.10)
 abbrev pub ContinuesInMode : TableParseMode → FirstPass → FirstPass → ℕ → Option ℕ → ℕ × Option Item → Type 0

@@ -29,9 +29,9 @@ impl<'a> FirstPass<'a> {
     /// it is as mode `Disabled`.
     ///
     /// Texts of the tokens are added after the named texts. The brace contexts are those of the call before, or none
-    /// in a new pass. At most one node is added for each byte that is read. An open block with text that contains a
-    /// chain of tokens contains one after the call, also if the returned line break is appended. Fails only if an
-    /// allocation fails.
+    /// in a new pass. At most one node is added for each byte that is read. Unless a cell is read, an open block with
+    /// text that contains a chain of tokens contains one after the call, also if the returned line break is appended.
+    /// Container prefixes may be before `start`: they are in no token. Fails only if an allocation fails.
     pub fn parse_line(
         &mut self,
         start: usize,

@@ -3,7 +3,7 @@ use Rattle.first_pass_grammar.proofs.Common.{document, text_upto, EndsLine}
 use Rattle.first_pass_blocks.proofs.Common.{no_names, PassState, ordered_none}
 use Rattle.first_pass_tokens.proofs.BytesLemmas.{few_of_line}
 use Rattle.first_pass.proofs.CallsNamed.{line_named}
-use Rattle.first_pass.proofs.Chains.{AddsTokens, chain_continues, closed_by_break, line_adds}
+use Rattle.first_pass.proofs.Chains.{AddsTokens, chain_continues, chain_later, closed_by_break, line_adds}
 use Rattle.first_pass.proofs.Closable.{closable_tokens, outside_of}
 use Rattle.first_pass.proofs.OrderJoin.{IsRange, both_ends, state_before, ordered_line}
 use Rattle.first_pass_text.proofs.ParagraphLemmas.{next_boundary}
@@ -48,7 +48,8 @@ returns-clause-line c =
         broken = λ ends boundary at low h.
             closed_by_break text old new c.args.start answer.0 answer.1 e.line.tokens
             (state_before text old at c.args.start c.recall_forest.ensures h.read.0 low) (adds ends boundary) e.line.tree_is refl (outside_of h);
-        chain = λ ends boundary block h.
-            chain_continues text old.tree new.tree block c.args.start answer e.line.tokens (adds ends boundary) e.line.tree_is h;
+        chain = λ ends boundary block to low h.
+            chain_continues text old.tree new.tree block c.args.start answer e.line.tokens (adds ends boundary) e.line.tree_is
+            (chain_later text old.tree block to c.args.start low h);
       };
     }

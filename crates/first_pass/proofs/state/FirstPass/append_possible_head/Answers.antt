@@ -56,8 +56,8 @@ returns-clause-block c =
     let e = c.in_ok-next.ensures.line.block in
     record {
       broken = λ ends boundary at low h kind. absurd (false≢true kind);
-      chain = λ ends boundary block h. record {
-        chain = chain_later text (tree_of c.append_content.new.self) block next c.next_line.result later (e.chain ends boundary block h).chain;
+      chain = λ ends boundary block to low h. record {
+        chain = chain_later text (tree_of c.append_content.new.self) block next c.next_line.result later (e.chain ends boundary block to low h).chain;
         broken = λ kind. absurd (false≢true kind);
       };
     }
