@@ -3,8 +3,7 @@ use Rattle.std.proofs.Common.{◌≡◌, ℕ, ◌≤◌, Bool, true, false, List
 use Rattle.std.proofs.Common.{inl, inr, refl, sym, ap, subst, ◌∙◌, true≢false}
 use Rattle.first_pass_grammar.proofs.Common.{cond_both, false_from_ne_true, Item, TreeIndex, Forest, appended, added, modify, body_at}
 use Rattle.first_pass_grammar.proofs.Common.{with_tokens, with_end, Options}
-use Rattle.first_pass_grammar.specs.Containers.{in_old_footnote}
-use Rattle.first_pass_blocks.proofs.Common.{with_token, path_of, IsOrderedAt, IsReadFrom, PassState, is_list, top_body}
+use Rattle.first_pass_blocks.proofs.Common.{with_token, IsOrderedAt, IsReadFrom, PassState, is_list, top_body}
 use Rattle.first_pass_items.specs.declared.item.AlignmentIndex.{AlignmentIndex}
 use Rattle.first_pass_items.specs.declared.item.ItemBody.TheVariants.{Table}
 use Rattle.first_pass_lists.specs.Closing.{is_item}
@@ -82,9 +81,8 @@ table_closed nodes more ix rest e index body h =
       top_kept (nodes ++ more) _ rest ended ∙ ap is_list (top_front nodes more rest h.2) ∙ around,
     )
 
--- what holds before an HTML block's blank line, too
-pub read_from : (options : Options) (text : List ℕ) (r : PassState) (at : ℕ) → IsOutside r.tree
-    → (in_old_footnote (path_of options r.tree) ≡ true → r.blank ≡ false) → IsOrderedFrom options text r at
+-- what holds before an HTML block's blank line, too, if no counting blank line is before it
+pub read_from : (options : Options) (text : List ℕ) (r : PassState) (at : ℕ) → IsOutside r.tree → r.blank ≡ false → IsOrderedFrom options text r at
     → IsReadFrom options text r at × (is_list (top_body r.tree) ≡ false)
 read_from options text r at h plain (inl o) = (inl (o, tree_closes text r.tree at h.0 h.1), h.1)
-read_from options text r at h plain (inr b) = (inr (b, h.0, h.1, plain), h.1)
+read_from options text r at h plain (inr b) = (inr (b, h.0, h.1, λ inside. plain), h.1)

@@ -11,7 +11,6 @@ use Rattle.first_pass_flank.specs.declared.flank.TableParseMode.TheVariants.{Act
 use Rattle.first_pass_html.specs.Ends.{BlockEnd}
 use Rattle.first_pass_lines.specs.Places.{Place}
 use Rattle.first_pass_grammar.specs.Completion.{lines_from}
-use Rattle.first_pass_grammar.specs.Containers.{in_old_footnote}
 use Rattle.first_pass_grammar.specs.Derivation.{no_tables}
 use Rattle.first_pass_grammar.specs.CodeBlocks.{IsFencedCode, IsMetadata}
 use Rattle.first_pass_grammar.specs.HtmlBlocks.{IsHtml}
@@ -24,7 +23,6 @@ use Rattle.first_pass_names.specs.TableEntries.{names_of, tables_of, NamesMore, 
 use Rattle.first_pass_tokens.specs.Braces.{no_braces}
 use Rattle.first_pass_tokens.specs.LineTokens.{is_break}
 use Rattle.first_pass_open.specs.Between.{line_end_at, AddsBetween, MarkerIsInItem, MarkerBetween}
-use Rattle.first_pass_open.specs.Path.{path_of}
 use Rattle.first_pass_lists.specs.Closing.{state_with, with_block, empty_item_closed, is_item, is_list, top_body}
 use Rattle.first_pass_lists.specs.declared.state.PassState.{PassState}
 use Rattle.first_pass_raw.specs.RawBlocks.{IsPlaceAt, range_of, AppendsRaw, AddsIndented, AddsRaw, fenced_after, metadata_after, html_to_end, html_to_blank}
@@ -150,13 +148,14 @@ pub record AddsHtmlToEnd (old new : FirstPass) (start : ℕ) (until : BlockEnd) 
 
 -- An HTML block after these columns is added that ends before a blank line. Its nodes lie between an offset and the
 -- block's end, which may be after the container prefixes of the blank line. Reading continues at the start of that
--- line. The state is in order up to there, or the tree is in order up to after these prefixes. Then the open nodes can
--- still be closed, unless the line ends a footnote definition in the old form (CommonMark 4.6, and this project).
+-- line. The state is in order up to there, or the tree is in order up to after these prefixes. The open nodes can still
+-- be closed in order. No counting blank line is before that line, so it ends no footnote definition in the old form
+-- (CommonMark 4.6, and this project).
 pub record AddsHtmlToBlank (old new : FirstPass) (start columns next : ℕ) : Type 0 where
   pub block : (p : Place) → IsPlaceAt (source_text old) start p → let e = html_to_blank (source_text old) (context_in old).path p in
       AddsRaw (document_named old new) (λ d. IsHtml d start columns e.places e.«end») e.left (tree_of old) (tree_of new) next
   pub kept : KeepsNames old new
-  pub state : state_of new ≡ with_block (state_of old) (tree_of new)
+  pub state : state_of new ≡ state_with (tree_of new) None false
   pub later : line_end_at (source_text old) start ≤ next
   pub boundary : IsCharBoundary (source_text old) next
   pub fits : (p : Place) → IsPlaceAt (source_text old) start p → (from : ℕ) → from ≤ start
@@ -164,7 +163,6 @@ pub record AddsHtmlToBlank (old new : FirstPass) (start columns next : ℕ) : Ty
   pub order : (at : ℕ) → at ≤ start → IsOrderedAt (source_text old) (state_of old) at
       → IsOrderedFrom (source_options old) (source_text old) (state_of new) next
   pub closable : (at : ℕ) → at ≤ start → IsClosable (source_text old) (state_of old) at
-      → (in_old_footnote (path_of (source_options old) (tree_of old)) ≡ true → (state_of old).blank ≡ false)
       → IsReadFrom (source_options old) (source_text old) (state_of new) next × (is_list (top_body (tree_of new)) ≡ false)
   pub node_bound : (from : ℕ) → from ≤ start → from < next → GrowsBy from next (tree_of old).nodes (tree_of new).nodes
 

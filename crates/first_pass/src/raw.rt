@@ -197,6 +197,10 @@ impl<'a> FirstPass<'a> {
     /// Appends the HTML block of types 6 and 7 that begins at the offset `start_ix`, after `indent` columns or
     /// `remaining_space` owed columns, whichever is more. It ends before a blank line. Returns the start of the next
     /// unread line, or the end of the text (CommonMark 4.6).
+    ///
+    /// A blank line before the block no longer counts. So it makes a list loose only if `finish_list` is called before
+    /// this, as before any other block. If it still counted, it could close a footnote definition in the old form at
+    /// the blank line after the block, but the block may end after the container prefixes of that line (this project).
     pub fn parse_html_block_type_6_or_7(
         &mut self,
         start_ix: usize,
@@ -221,6 +225,7 @@ impl<'a> FirstPass<'a> {
             &start,
         )?;
         pass.state.begin_list_item = None;
+        pass.state.blank = false;
         Ok(next)
     }
 }

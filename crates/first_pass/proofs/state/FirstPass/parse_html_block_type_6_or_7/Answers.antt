@@ -1,8 +1,8 @@
-use Rattle.std.proofs.Common.{◌≡◌, ℕ, ◌≤◌, length, None, refl, sym, ap, subst, ◌∙◌}
+use Rattle.std.proofs.Common.{◌≡◌, ℕ, ◌≤◌, false, length, None, refl, sym, ap, subst, ◌∙◌}
 use Rattle.first_pass_grammar.proofs.Common.{offset, lines_from}
 use Rattle.first_pass_blocks.proofs.Common.{path_of, after_line_at, html_to_blank, PassState, names_of, extends_none, first_at, first_is, path_added}
 use Rattle.first_pass_blocks.proofs.Common.{block_ordered, IsOrderedAt}
-use Rattle.first_pass_grammar.specs.Containers.{in_old_footnote}
+use Rattle.first_pass_lists.specs.Closing.{state_with}
 use Rattle.first_pass_order.specs.Ordered.{IsOrderedFrom}
 use Rattle.first_pass_order.proofs.Nests.{added_outside}
 use Rattle.first_pass_blocks.proofs.Leaves.KindBlocks.{html_stops, ordered_stopped, to_blank_between, to_blank_stands, to_blank_few}
@@ -19,7 +19,7 @@ returns c =
     let names = names_of c.parse_html_block_type_6_or_7.new.allocs in
     let e = c.in_ok-next.ensures in
     let old : PassState = self.pass.state in
-    let new : PassState = record old { tree = c.parse_html_block_type_6_or_7.new.tree; begin_list_item = None } in
+    let new : PassState = state_with c.parse_html_block_type_6_or_7.new.tree None false in
     let p = first_at text c.args.start_ix 0 in
     let i = first_is text c.args.start_ix 0 in
     let block = e.block p i in
@@ -35,15 +35,14 @@ returns c =
     (to_blank_between _ _ _ _ _ c.args.start_ix _ e.utf8 c.requires.boundary e.boundary.1.0 _ p i block) ends.boundary.0 refl) in
     record {
       block = rw c.max.ensures at e.block;
-      kept = adds_kept {blank = old.blank} block.items (refl, refl, refl) e.more block.tree_is (html_named (block.are names (extends_none names)));
+      kept = adds_kept {blank = false} block.items (refl, refl, refl) e.more block.tree_is (html_named (block.are names (extends_none names)));
       state = refl;
       later = e.boundary.0;
       boundary = e.boundary.1;
       fits = λ p i. to_blank_between _ _ _ _ _ c.args.start_ix _ e.utf8 c.requires.boundary e.boundary.1.0 _ p i (e.block p i);
       order = ordered;
-      closable = λ at low h plain.
+      closable = λ at low h.
           read_from options text new next
-          (subst IsOutside (sym block.tree_is) (added_outside old.tree block.items h.read.1.nested h.outside))
-          (λ inside. plain (ap in_old_footnote (sym path) ∙ inside)) (ordered at low h.read.0);
+          (subst IsOutside (sym block.tree_is) (added_outside old.tree block.items h.read.1.nested h.outside)) refl (ordered at low h.read.0);
       node_bound = to_blank_few _ _ _ _ _ c.args.start_ix _ e.utf8 c.requires.boundary e.boundary.1.0 _ p i block;
     }
