@@ -4,6 +4,7 @@ pub mod CallsNamed
 pub mod Chains
 pub mod Closable
 pub mod CutOrder
+pub mod Later
 pub mod OrderJoin
 pub mod RowsOrdered
 pub mod TextTokens

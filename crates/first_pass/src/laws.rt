@@ -1,6 +1,6 @@
 //! Laws of the contents of an open paragraph, of the order and the nodes of a pass between two calls, and of dashes.
 
-ghost use Rattle.first_pass.specs.Closable.{IsClosable};
+ghost use Rattle.first_pass.specs.Closable.{HasEndedBy, IsClosable};
 ghost use Rattle.first_pass.specs.Holds.{HoldsChain, HoldsText, HoldsTokens};
 ghost use Rattle.first_pass_grammar.specs.Counting.{counted_nodes, inserted_cells};
 ghost use Rattle.first_pass_grammar.specs.Leaves.{Document, TextLines};
@@ -52,6 +52,17 @@ pub fn ended_block_is_closable()
     ensures { (options : Options) (text : List ℕ) (r : PassState) (at : ℕ) (last : TreeIndex) (x : Item)
         → IsForest r.tree → IsReadFrom options text r at → r.tree.current ≡ Some last → item_at r.tree last ≡ Some x
         → is_task_marker x.body ≡ false → x.«end» ≤ at → IsReadTo text r at }
+{}
+
+/// What was read is in order up to each later offset, too, and the open nodes can be closed there. After an HTML block
+/// before a blank line, that holds if the innermost open node starts at or before the offset, and its last child, if
+/// it has one, ends there or before. So reading can continue at a later line or after a marker, and nodes can be closed
+/// there (CommonMark 4.6, and this project).
+pub fn reading_continues_later()
+    ensures to { (text : List ℕ) (r : PassState) (from at : ℕ) → IsReadTo text r from → from ≤ at → at ≤ length text
+        → IsReadTo text r at }
+    ensures ended { (options : Options) (text : List ℕ) (r : PassState) (from at : ℕ) → IsForest r.tree
+        → IsReadFrom options text r from → from ≤ at → at ≤ length text → HasEndedBy r.tree at → IsReadTo text r at }
 {}
 
 /// The nodes of a tree with whole tables are at most its counted nodes and its inserted cells together. By `node_bound`

@@ -18,6 +18,7 @@ mod table;
 
 pub use crate::laws::{
     block_begins, ended_block_is_closable, law_of_dashes, lines_are_tokens, nodes_are_counted,
+    reading_continues_later,
 };
 pub use first_pass_attributes::attrs;
 pub use first_pass_below::below::{Item, ItemBody, Options, Tree};
