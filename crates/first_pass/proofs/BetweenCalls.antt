@@ -9,7 +9,8 @@ use Rattle.std.proofs.lemmas.List.{length-map}
 use Rattle.first_pass_tree.specs.Forest.{IsForest, IsLastAt, IsOpenPath}
 use Rattle.first_pass_open.specs.OpenBlock.{IsJustPushed}
 use Rattle.first_pass_containers.proofs.OrderSteps.{top_begun}
-use Rattle.first_pass_lists.specs.Closing.{begun, with_block}
+use Rattle.first_pass_items.specs.declared.item.ItemBody.TheVariants.{ListItem, DefinitionListDefinition}
+use Rattle.first_pass_lists.specs.Closing.{begun, is_item, top_body, with_block}
 use Rattle.first_pass_order.specs.Ordered.{top_of}
 use Rattle.first_pass_order.proofs.Nests.{begun_nested, tree_closes}
 use Rattle.first_pass_order.proofs.OrderLemmas.{get_mid, ordered_begun}
@@ -70,18 +71,34 @@ module _ (start : ℕ) (body : ItemBody) (r : PassState) where
         stands = here;
       }) here refl
 
--- The open nodes can be closed if it is no list.
-pub closable_begun : (text : List ℕ) (r : PassState) (at start : ℕ) (body : ItemBody) → IsClosable text r at → at ≤ start
-    → IsCharBoundary text start → is_list (Some body) ≡ false → IsClosable text (begun start body (with_block r r.tree)) start
-closable_begun text r at start body c low starts other =
+-- The open nodes can be closed if it is no list, and if it is an item directly in a list.
+begun_closable : (text : List ℕ) (r : PassState) (at start : ℕ) (body : ItemBody) → IsReadTo text r at → at ≤ start → IsCharBoundary text start
+    → (is_list (top_body r.tree) ≡ true → is_item (Some body) ≡ true) → is_list (Some body) ≡ false
+    → IsClosable text (begun start body (with_block r r.tree)) start
+begun_closable text r at start body h low starts may other =
     let state : PassState = begun start body (with_block r r.tree) in
-    let before = c.read.0.later in
-    let ordered = ordered_begun text (with_block r r.tree) (reached r.begin_list_item at) start body (omega arith) starts.0 starts c.read.0.ordered in
+    let before = h.0.later in
+    let ordered = ordered_begun text (with_block r r.tree) (reached r.begin_list_item at) start body (omega arith) starts.0 starts h.0.ordered in
     closable_by text state state.tree start refl (
-      begun_nested start body (with_block r r.tree) (λ list. absurd (false≢true (sym c.outside ∙ list))) c.read.1.nested,
+      begun_nested start body (with_block r r.tree) may h.1.nested,
       ap is_list (top_begun start body (with_block r r.tree)) ∙ other,
     )
     (ordered_none text state start refl starts.0 ordered)
+
+pub closable_begun : (text : List ℕ) (r : PassState) (at start : ℕ) (body : ItemBody) → IsClosable text r at → at ≤ start
+    → IsCharBoundary text start → is_list (Some body) ≡ false → IsClosable text (begun start body (with_block r r.tree)) start
+closable_begun text r at start body c low starts other =
+    begun_closable text r at start body c.read low starts (λ list. absurd (false≢true (sym c.outside ∙ list))) other
+
+-- an item, in a list or elsewhere
+item_no_list : (body : ItemBody) → is_item (Some body) ≡ true → is_list (Some body) ≡ false
+item_no_list (ListItem columns) h = refl
+item_no_list (DefinitionListDefinition columns) h = refl
+item_no_list body h = absurd (false≢true h)
+
+pub item_begun : (text : List ℕ) (r : PassState) (at start : ℕ) (body : ItemBody) → IsReadTo text r at → at ≤ start → IsCharBoundary text start
+    → is_item (Some body) ≡ true → IsClosable text (begun start body (with_block r r.tree)) start
+item_begun text r at start body h low starts item = begun_closable text r at start body h low starts (λ list. item) (item_no_list body item)
 
 -- an end that is the same
 same_end : (nodes : List (ℕ × Item)) (i : ℕ) (x : Item) → option_map (λ (n : ℕ × Item). n.1) (slice_get nodes i) ≡ Some x

@@ -12,7 +12,7 @@ ghost use Rattle.first_pass_items.specs.declared.item.Item.{Item};
 ghost use Rattle.first_pass_items.specs.declared.item.ItemBody.{ItemBody};
 ghost use Rattle.first_pass_items.specs.declared.option_set.Options.{Options};
 ghost use Rattle.first_pass_lines.specs.Places.{start_of};
-ghost use Rattle.first_pass_lists.specs.Closing.{begun, is_list, top_body, with_block};
+ghost use Rattle.first_pass_lists.specs.Closing.{begun, is_item, is_list, top_body, with_block};
 ghost use Rattle.first_pass_lists.specs.declared.state.PassState.{PassState};
 ghost use Rattle.first_pass_open.specs.OpenBlock.{IsJustPushed};
 ghost use Rattle.first_pass_order.specs.Ordered.{IsReadFrom, IsReadTo};
@@ -30,9 +30,10 @@ pub fn lines_are_tokens()
         → HoldsTokens d.text f block × IsOrderedTo d.text f (start_of (length d.text) l.left) }
 {}
 
-/// A block is opened, and nothing in it is read yet. It is the innermost open node and the last one. If it is no list,
-/// the open nodes can be closed there. If it has text, it contains an empty chain, so its lines can be read one by one
-/// by `parse_line` (CommonMark 4.8, and this project).
+/// A block is opened, and nothing in it is read yet. It is the innermost open node and the last one. The open nodes can
+/// be closed there if it is no list and is not opened directly in one, or if it is an item. So an item can be opened
+/// after `continue_list`. If the block has text, it contains an empty chain, so its lines can be read one by one by
+/// `parse_line` (CommonMark 4.8, 5.2, and this project).
 pub fn block_begins()
     ensures pushed { (start : ℕ) (body : ItemBody) (r : PassState)
         → IsJustPushed (begun start body r).tree (record { 0 = length r.tree.nodes })
@@ -40,6 +41,9 @@ pub fn block_begins()
     ensures innermost { (start : ℕ) (body : ItemBody) (r : PassState) → top_body (begun start body r).tree ≡ Some body }
     ensures closable { (text : List ℕ) (r : PassState) (at start : ℕ) (body : ItemBody) → IsClosable text r at
         → at ≤ start → IsCharBoundary text start → is_list (Some body) ≡ false
+        → IsClosable text (begun start body (with_block r r.tree)) start }
+    ensures item { (text : List ℕ) (r : PassState) (at start : ℕ) (body : ItemBody) → IsReadTo text r at → at ≤ start
+        → IsCharBoundary text start → is_item (Some body) ≡ true
         → IsClosable text (begun start body (with_block r r.tree)) start }
     ensures chain { (text : List ℕ) (start : ℕ) (body : ItemBody) (r : PassState) → is_text_block body ≡ true
         → IsCharBoundary text start

@@ -1,6 +1,6 @@
 use Rattle.std.proofs.Common.{length, refl}
 use Rattle.first_pass_containers.proofs.OrderSteps.{top_begun}
-use Rattle.first_pass.proofs.BetweenCalls.{chain_begun, closable_begun, just_pushed}
+use Rattle.first_pass.proofs.BetweenCalls.{chain_begun, closable_begun, item_begun, just_pushed}
 use Rattle.first_pass.proofs.laws.block_begins.Goals as goal
 
 pub returns-clause-pushed : goal.returns-clause-pushed
@@ -13,6 +13,9 @@ returns-clause-innermost c = λ start body r. top_begun start body r
 
 pub returns-clause-closable : goal.returns-clause-closable
 returns-clause-closable c = λ text r at start body closable low starts other. closable_begun text r at start body closable low starts other
+
+pub returns-clause-item : goal.returns-clause-item
+returns-clause-item c = λ text r at start body read low starts item. item_begun text r at start body read low starts item
 
 pub returns-clause-chain : goal.returns-clause-chain
 returns-clause-chain c = λ text start body r is_text starts. chain_begun start body r text is_text starts
