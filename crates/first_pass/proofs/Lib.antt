@@ -5,6 +5,7 @@ pub mod Chains
 pub mod Closable
 pub mod CutOrder
 pub mod Later
+pub mod LineLengths
 pub mod OrderJoin
 pub mod RowsOrdered
 pub mod TextTokens

@@ -149,6 +149,27 @@ pub tokens_after : (text : List ℕ) (old new : Forest Item) (start to : ℕ) (t
 tokens_after text old new start to tokens o h high is =
     rw is (ordered_tokens text old o.from to tokens o.forest (order_from text o.from start to tokens h o.low) high o.order)
 
+-- a line, and a cell, of a range end at a character boundary
+pub line_ends : {texts : List CowStr} {after : MathBraces} (d : Document) (braces : MathBraces) (start : ℕ) (end : Option ℕ) (old new : Forest Item)
+    (answer : ℕ × Option Item) → IsRange d.text start end
+    → AppendsLine texts (record { options = d.options; whole = d.text; text = text_upto d.text end; start = start; row = false; braces = braces }) old new
+    answer after → IsCharBoundary d.text answer.0
+line_ends d braces start end old new (next, line_break) r h =
+    let f = front_of d.text start end r in
+    f.place next (line_in_order f.utf8 f.boundary f.boundary.0 h.line).ends
+
+pub cell_ends : {texts : List CowStr} {after : MathBraces} (d : Document) (braces : MathBraces) (start : ℕ) (end : Option ℕ) (old new : Forest Item)
+    (stop : ℕ) → IsRange d.text start end
+    → AppendsCell texts (record { options = d.options; whole = d.text; text = text_upto d.text end; start = start; row = true; braces = braces }) old new
+    stop after → IsCharBoundary d.text stop
+cell_ends d braces start end old new stop r h = (let f = front_of d.text start end r in f.place stop (cell_end_place f.boundary.0 h.cell))
+
+-- an offset that is not after the cut
+pub before_cut : (text : List ℕ) (end : Option ℕ) (at : ℕ) → IfSome end (λ e. IsCharBoundary text e) → at ≤ length (text_upto text end)
+    → IfSome end (λ e. (at ≤ e) × IsCharBoundary text e)
+before_cut text None at ends within = tt
+before_cut text (Some e) at ends within = (let n = length-take-le e text ends.0 in (omega arith, ends))
+
 -- the tokens of a line in a range of a text are added
 pub ordered_line : {texts : List CowStr} {after : MathBraces} (d : Document) (braces : MathBraces) (start : ℕ) (end : Option ℕ) (old new : Forest Item)
     (answer : ℕ × Option Item) → IsRange d.text start end → IsOrderedBefore d.text old start

@@ -1,15 +1,19 @@
 -- The rows of a table keep the tree in order as they are added, with at most four nodes for each byte.
-use Rattle.std.proofs.Common.{◌≡◌, ℕ, ◌+◌, ◌<◌, ◌≤◌, List, ◌∷◌, ◌++◌, length, Option, Some, None, IfSome, IsCharBoundary, refl, sym, ap, subst, ◌∙◌, arith}
-use Rattle.first_pass_grammar.proofs.Common.{none-some, Item, TreeIndex, Forest, added, at_depth, body_at, counted_nodes, IsOrderedTo, GrowsBy}
+use Rattle.std.proofs.Common.{◌≡◌, inl, inr, ℕ, ◌+◌, ◌<◌, ◌≤◌, List, ◌∷◌, ◌++◌, length, Option, Some, None, IfSome, IsUtf8, IsCharBoundary, refl, sym, ap}
+use Rattle.std.proofs.Common.{subst, ◌∙◌, arith}
+use Rattle.first_pass_grammar.proofs.Common.{none-some, Item, TreeIndex, Forest, added, at_depth, body_at, counted_nodes, IsOrderedTo, GrowsBy, Document}
+use Rattle.first_pass_grammar.proofs.Common.{around, spot}
 use Rattle.first_pass_blocks.proofs.Common.{own_added, IsJustPushed, closed_by, AddsBetween, with_below, names_of, block_count, ordered_same, ordered_later}
-use Rattle.first_pass_blocks.proofs.Common.{ordered_none, PassState}
+use Rattle.first_pass_blocks.proofs.Common.{ordered_none, OpenTable, PassState, ReadsRowLine, path_of}
 use Rattle.first_pass_items.specs.declared.item.ItemBody.TheVariants.{Table}
 use Rattle.first_pass_lists.specs.Closing.{is_item, top_body}
 use Rattle.first_pass_order.specs.Ordered.{top_of, AreNested}
 use Rattle.first_pass_order.proofs.Nests.{added_outside, top_front}
 use Rattle.first_pass_containers.proofs.OrderSteps.{ordered_tree}
 use Rattle.first_pass_grammar.proofs.Count.CountedNodes.{own_ended}
-use Rattle.first_pass_tables.specs.Appends.{ClosesBetween, IsOpenNode}
+use Rattle.first_pass_tables.specs.Appends.{ClosesBetween, IsOpenNode, ReadsRow}
+use Rattle.first_pass_tables.proofs.CellsFit.{row_boundary}
+use Rattle.first_pass_tables.proofs.RowPlaces.{begins_row}
 use Rattle.first_pass_names.specs.TableEntries.{AddsTexts}
 use Rattle.first_pass.specs.declared.state.FirstPass.{FirstPass}
 use Rattle.first_pass.specs.Calls.{ReadsRowFrom}
@@ -50,16 +54,38 @@ row_open text old new ix (Some row) same adds node =
     subst IsOpenNode (sym adds.tree_is)
     (record { place = node.place; around = node.around; innermost = node.innermost; childless = λ none. absurd (none-some _ (sym none)) })
 
+-- a row ends at a character boundary
+pub row_stops : (d : Document) (columns start : ℕ) (old new : OpenTable) (answer : Option (ℕ × TreeIndex)) → IsUtf8 d.text → IsCharBoundary d.text start
+    → ReadsRow d columns start old new answer → IfSome answer (λ r. IsCharBoundary d.text r.0)
+row_stops d columns start old new None utf8 boundary r = tt
+row_stops d columns start old new (Some (stop, ix)) utf8 boundary r =
+    subst (IsCharBoundary d.text) (sym r.adds.3)
+    (row_boundary d (spot start old.braces) r.cells (spot r.row_end r.after) utf8 boundary r.are_cells)
+
+pub line_row_stops : (d : Document) (columns n : ℕ) (old new : OpenTable) (answer : Option (ℕ × TreeIndex)) → IsUtf8 d.text → IsCharBoundary d.text n
+    → ReadsRowLine d columns n old new answer → IfSome answer (λ r. IsCharBoundary d.text r.0)
+line_row_stops d columns n old new answer utf8 boundary (inl (none, is, same)) = subst (λ o. IfSome o (λ r. IsCharBoundary d.text r.0)) (sym is) tt
+line_row_stops d columns n old new answer utf8 boundary (inr (start, begins, r)) =
+    let p = begins_row d.text (around d (path_of d.options old.tree)) n start utf8 boundary begins in
+    row_stops d columns start old new answer utf8 (subst (IsCharBoundary d.text) (sym p.start_is) p.stands.boundary) r
+
+row_boundary_by : (text : List ℕ) (ix : ℕ) (row : Option (ℕ × TreeIndex)) → IsCharBoundary text ix → IfSome row (λ r. IsCharBoundary text r.0)
+    → IsCharBoundary text (after_row row ix)
+row_boundary_by text ix None begins ends = begins
+row_boundary_by text ix (Some row) begins ends = ends
+
 -- a row is read if it keeps the entries and the state, and is between two offsets
 pub row_read : (old new : FirstPass) (ix : ℕ) (row : Option (ℕ × TreeIndex)) → KeepsEntries old new
     → AddsTexts (names_of (allocs_of new)) (names_of (allocs_of old)) → state_of new ≡ with_tree (state_of old) (tree_of new)
     → ix ≤ length (source_text old) → (row ≡ None → tree_of new ≡ tree_of old) → IfSome row (λ r. r.0 ≤ length (source_text old))
+    → (IsCharBoundary (source_text old) ix → IfSome row (λ r. IsCharBoundary (source_text old) r.0))
     → (IsCharBoundary (source_text old) ix → (from : ℕ) → from ≤ ix → IfSome row (λ r. AddsBetween (source_text old) from r.0 (tree_of old) (tree_of new)))
     → ReadsRowFrom old new ix (after_row row ix)
-row_read old new ix row kept texts state within same ends fits = record {
+row_read old new ix row kept texts state within same ends stops fits = record {
   kept = kept;
   texts = texts;
   state = state;
+  boundary = λ begins. row_boundary_by (source_text old) ix row begins (stops begins);
   order = λ begins at low o. row_ordered (source_text old) (tree_of old) (tree_of new) at ix row low within same ends (fits begins at low) o;
   closable = λ table begins at low h.
       let none = no_empty_item (source_text old) (state_of old) at h.read.0 (ap is_item table.1) in

@@ -1,11 +1,12 @@
 -- What the calls of a pass do: one record for each kind of call.
-use Rattle.std.specs.Prelude.{◌≡◌, ℕ, ◌+◌, ◌-◌, ◌≤◌, ◌<◌, Bool, true, false, List, length, Option, None, IfSome, IsCharBoundary, Result, IfOk}
+use Rattle.std.specs.Prelude.{◌≡◌, ℕ, ◌+◌, ◌-◌, ◌≤◌, ◌<◌, Bool, true, false, List, length, drop, Option, Some, None, IfSome, IsCharBoundary, Result, IfOk}
 use Rattle.std.specs.declared.alloc.AllocError.{AllocError}
 use Rattle.first_pass_items.specs.declared.item.HeadingLevel.{HeadingLevel}
 use Rattle.first_pass_items.specs.declared.item.Item.{Item}
 use Rattle.first_pass_items.specs.declared.option_set.Options.{Options}
 use Rattle.first_pass_tree.specs.Forest.{added, appended}
 use Rattle.first_pass_tree.specs.declared.tree_index.TreeIndex.{TreeIndex}
+use Rattle.first_pass_scan.specs.LeafLines.{hrule_len}
 use Rattle.first_pass_flank.specs.declared.flank.TableParseMode.{TableParseMode}
 use Rattle.first_pass_flank.specs.declared.flank.TableParseMode.TheVariants.{Active}
 use Rattle.first_pass_html.specs.Ends.{BlockEnd}
@@ -167,7 +168,8 @@ pub record AddsHtmlToBlank (old new : FirstPass) (start columns next : ℕ) : Ty
   pub node_bound : (from : ℕ) → from ≤ start → from < next → GrowsBy from next (tree_of old).nodes (tree_of new).nodes
 
 -- A thematic break of `size` bytes that begins at an offset is added, and reading continues after it. It is in order
--- if both of its ends are character boundaries (CommonMark 4.1, and this project).
+-- if both of its ends are character boundaries. If that is the size of the thematic break in the text there, the second
+-- end is one if the first is (CommonMark 4.1, and this project).
 pub record AddsRule (old new : FirstPass) (ix size next : ℕ) : Type 0 where
   pub kept : KeepsTables old new
   pub state : state_of new ≡ with_block (state_of old) (tree_of new)
@@ -179,6 +181,7 @@ pub record AddsRule (old new : FirstPass) (ix size next : ℕ) : Type 0 where
   pub closable : (at : ℕ) → at ≤ ix → IsCharBoundary (source_text old) ix → IsCharBoundary (source_text old) (ix + size)
       → IsClosable (source_text old) (state_of old) at → IsClosable (source_text old) (state_of new) next
   pub following : next ≡ ix + size
+  pub boundary : hrule_len (drop ix (source_text old)) ≡ Some size → IsCharBoundary (source_text old) ix → IsCharBoundary (source_text old) next
 
 -- The paragraph, setext heading or table at an offset is added, after the marker of its task list item if it has one.
 -- Its nodes lie between the start of the text, or of that marker, and the offset at which reading continues. If the
@@ -209,11 +212,12 @@ pub record AppendsRawLine (kind : RawKind) (old new : FirstPass) (owed start «e
       → IsClosable (source_text old) (state_of old) at → IsClosable (source_text old) (state_of new) «end»
 
 -- The tokens between two offsets of a text, which may be cut at `end`, are appended: at most one for each byte, and in
--- order. The item to which they are added is no longer empty (CommonMark 2.4, GFM 4.10, and this project).
+-- order if the first offset and the cut are character boundaries. The second offset then is one, too. The item to which
+-- the tokens are added is no longer empty (CommonMark 2.4, GFM 4.10, and this project).
 pub record AppendsTokens (old new : FirstPass) (start : ℕ) (end : Option ℕ) (stop : ℕ) : Type 0 where
   pub kept : KeepsEntries old new
   pub state : state_of new ≡ with_block (state_of old) (tree_of new)
-  pub boundary : end ≡ None → IsCharBoundary (source_text old) start → IsCharBoundary (source_text old) stop
+  pub boundary : IfSome end (λ e. IsCharBoundary (source_text old) e) → IsCharBoundary (source_text old) start → IsCharBoundary (source_text old) stop
   pub order : IfSome end (λ e. IsCharBoundary (source_text old) e) → IsCharBoundary (source_text old) start → (at : ℕ) → at ≤ start
       → IsOrderedAt (source_text old) (state_of old) at → IsOrderedAt (source_text old) (state_of new) stop
   pub closable : IfSome end (λ e. IsCharBoundary (source_text old) e) → IsCharBoundary (source_text old) start → (at : ℕ) → at ≤ start
@@ -260,13 +264,14 @@ pub record ClosesTable (old new : FirstPass) (columns head_start body_start next
       → GrowsBy from next (tree_of old).nodes (tree_of new).nodes
   pub tables : AddsWholeRows (document (source_text old) (source_options old) (names_of (allocs_of new))) columns head_start (tree_of old) (tree_of new) next
 
--- A row of a table that begins at an offset is read, or there is none. It is in order and has at most four nodes for
--- each byte, if the offset is a character boundary. Its texts are appended to the named texts. The table remains open,
--- and its nodes can still be closed (GFM 4.10, and this project).
+-- A row of a table that begins at an offset is read, or there is none. If the offset is a character boundary, the row is
+-- in order, ends at one, and has at most four nodes for each byte. Its texts are appended to the named texts. The table
+-- remains open, and its nodes can still be closed (GFM 4.10, and this project).
 pub record ReadsRowFrom (old new : FirstPass) (ix next : ℕ) : Type 0 where
   pub kept : KeepsEntries old new
   pub texts : AddsTexts (names_of (allocs_of new)) (names_of (allocs_of old))
   pub state : state_of new ≡ with_tree (state_of old) (tree_of new)
+  pub boundary : IsCharBoundary (source_text old) ix → IsCharBoundary (source_text old) next
   pub order : IsCharBoundary (source_text old) ix → (at : ℕ) → at ≤ ix → IsOrderedTo (source_text old) (tree_of old) at
       → IsOrderedTo (source_text old) (tree_of new) next
   pub closable : IsTableOpen (tree_of old) → IsCharBoundary (source_text old) ix → (at : ℕ) → at ≤ ix

@@ -106,8 +106,9 @@ pub record HoldsText (d : Document) (f : Forest Item) (block : TreeIndex) (l : T
   pub ordered : IsOrderedTo d.text (with_child before marker) start
 
 -- The innermost block becomes a heading if a setext heading underline begins at an offset; otherwise nothing changes.
--- No node is added. If the block contains tokens, a tree in order stays in order; if these are a chain, the open nodes
--- can still be closed (CommonMark 4.3, and this project).
+-- Reading continues at the end of the underline's line, which is a character boundary if the offset is one. No node is
+-- added. If the block contains tokens, a tree in order stays in order; if these are a chain, the open nodes can still be
+-- closed (CommonMark 4.3, and this project).
 pub record MakesHeading (old new : FirstPass) (ix : ℕ) (block : TreeIndex) (broken : Bool) (next : Option ℕ) : Type 0 where
   pub kept : KeepsNames old new
   pub state : state_of new ≡ with_tree (state_of old) (tree_of new)
@@ -115,6 +116,8 @@ pub record MakesHeading (old new : FirstPass) (ix : ℕ) (block : TreeIndex) (br
   pub heading : MatchOption (setext_underline (drop ix (source_text old))) (tree_of new ≡ tree_of old)
       (λ underline. BecomesHeading (document (source_text old) (source_options old) (names_of (allocs_of new))) underline.1 broken block (tree_of old)
       (tree_of new))
+  pub line_end : IfSome next (λ n. n ≡ line_end_at (source_text old) ix)
+  pub boundary : IsCharBoundary (source_text old) ix → IfSome next (λ n. IsCharBoundary (source_text old) n)
   pub node_bound : length (tree_of new).nodes ≤ length (tree_of old).nodes
   pub order : (at : ℕ) → HoldsTokens (source_text old) (tree_of old) block → IsOrderedTo (source_text old) (tree_of old) at
       → IsOrderedTo (source_text old) (tree_of new) at

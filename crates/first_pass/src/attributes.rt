@@ -6,7 +6,7 @@ ghost use Rattle.first_pass.specs.Views.{source_text, tree_of};
 ghost use Rattle.first_pass_tree.specs.Forest.{item_at};
 ghost use Rattle.std.specs.Prelude.{◌≡◌, ◌≤◌, length, slice_get, Some, IfOk, IfSome};
 
-use crate::state::FirstPass;
+use crate::state::{FirstPass, recall_utf8};
 use first_pass_attributes::attrs::HeadingAttributes;
 use first_pass_lines::places::rest_of;
 use first_pass_scan::leaf_scan::scan_setext_heading;
@@ -60,6 +60,7 @@ impl<'a> FirstPass<'a> {
     {
         let pass = &mut self.pass;
         pass.state.tree.recall_forest();
+        recall_utf8(pass.source.text);
         let bytes = rest_of(pass.source.text.as_bytes(), ix);
         let Some((length, level)) = scan_setext_heading(bytes) else {
             return Ok(None);

@@ -4,9 +4,9 @@ ghost use Rattle.first_pass.specs.Calls.{AddsAtxHeading, AddsParagraph, AddsRule
 ghost use Rattle.first_pass.specs.Views.{source_text};
 ghost use Rattle.first_pass_lines.specs.Lines.{atx_level as atx_level_of};
 ghost use Rattle.first_pass_tree.specs.Forest.{is_text};
-ghost use Rattle.std.specs.Prelude.{◌≡◌, ◌+◌, ◌≤◌, drop, Some, false, length, IfOk, IfSome, IsCharBoundary, IsUtf8};
+ghost use Rattle.std.specs.Prelude.{◌≡◌, ◌+◌, ◌≤◌, drop, Some, false, length, IfOk, IfSome, IsCharBoundary};
 
-use crate::state::FirstPass;
+use crate::state::{FirstPass, recall_utf8};
 use first_pass_items::item::{HeadingLevel, Item};
 use first_pass_text::{heading, rule};
 use std::alloc::AllocError;
@@ -63,15 +63,9 @@ impl<'a> FirstPass<'a> {
     {
         let pass = &mut self.pass;
         pass.source.recall_length();
+        recall_utf8(pass.source.text);
         let next = rule::parse_hrule(&mut pass.state.tree, hrule_size, ix)?;
         pass.state.begin_list_item = None;
         Ok(next)
     }
-}
-
-// Recalls the invariant of a text, for the proof of a caller.
-fn recall_utf8(text: &str)
-    ensures { IsUtf8 text.now }
-{
-    let _bytes = text.as_bytes();
 }

@@ -1,5 +1,7 @@
 //! The state of a pass.
 
+ghost use Rattle.std.specs.Prelude.{IsUtf8};
+
 use first_pass_blocks::state::BlockPass;
 use first_pass_tokens::braces::BraceContexts;
 
@@ -14,4 +16,11 @@ pub struct FirstPass<'a> {
     /// The brace contexts that `parse_line`, `parse_table_row` and `parse_table_row_inner` read and update: the
     /// nesting of braces around a dollar sign (this project).
     pub braces: BraceContexts,
+}
+
+// Recalls the invariant of a text, for the proof of a caller.
+pub(crate) fn recall_utf8(text: &str)
+    ensures { IsUtf8 text.now }
+{
+    let _bytes = text.as_bytes();
 }

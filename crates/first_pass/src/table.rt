@@ -7,7 +7,7 @@ ghost use Rattle.first_pass_tables.specs.Appends.{IsOpenNode};
 ghost use Rattle.first_pass_tree.specs.declared.tree_index.TreeIndex.{TreeIndex};
 ghost use Rattle.std.specs.Prelude.{◌≤◌, length, IfOk, IsSomeAnd, IsCharBoundary};
 
-use crate::state::FirstPass;
+use crate::state::{FirstPass, recall_utf8};
 use first_pass_tables::row::{self, CellsWanted, TableSoFar};
 use first_pass_tables::rows::{self, TableRows};
 use first_pass_tokens::braces::BraceContexts;
@@ -108,6 +108,7 @@ impl<'a> FirstPass<'a> {
             most: row_cells,
         };
         let pass = &mut self.pass;
+        recall_utf8(pass.source.text);
         let row = row::parse_table_row_inner(
             &pass.source,
             &mut pass.state.tree,

@@ -1,12 +1,11 @@
-use Rattle.std.proofs.Common.{false, ℕ, Option, None, IfSome, IsCharBoundary, refl, subst}
-use Rattle.first_pass_grammar.proofs.Common.{document, text_upto, EndsLine}
+use Rattle.std.proofs.Common.{None, IfSome, IsCharBoundary, refl}
+use Rattle.first_pass_grammar.proofs.Common.{document}
 use Rattle.first_pass_blocks.proofs.Common.{no_names, PassState, ordered_none}
 use Rattle.first_pass_tokens.proofs.BytesLemmas.{few_of_line}
 use Rattle.first_pass.proofs.CallsNamed.{line_named}
 use Rattle.first_pass.proofs.Chains.{AddsTokens, chain_continues, chain_later, closed_by_break, line_adds}
 use Rattle.first_pass.proofs.Closable.{closable_tokens, outside_of}
-use Rattle.first_pass.proofs.OrderJoin.{IsRange, both_ends, state_before, ordered_line}
-use Rattle.first_pass_text.proofs.ParagraphLemmas.{next_boundary}
+use Rattle.first_pass.proofs.OrderJoin.{IsRange, both_ends, line_ends, state_before, ordered_line}
 use Rattle.first_pass.proofs.state.FirstPass.append_content.Goals as goal
 
 pub returns-clause-line : goal.returns-clause-line
@@ -28,11 +27,8 @@ returns-clause-line c =
       tokens = record {
         kept = record { source = refl; more = record { names = e.names; entries = e.entries }; named = line_named e.names e.line };
         state = refl;
-        boundary = λ whole boundary.
-            next_boundary (document text options no_names) c.args.start answer.0 self.braces answer.1 e.utf8 boundary
-            (subst (λ (t : Option ℕ). EndsLine
-            (record { options = options; whole = text; text = text_upto text t; start = c.args.start; row = false; braces = self.braces }) answer)
-            whole e.ends);
+        boundary = λ ends boundary.
+            line_ends (document text options no_names) self.braces c.args.start c.args.end old.tree new.tree answer (range ends boundary) e.line;
         order = λ ends boundary at low o.
             let to = ordered_line (document text options no_names) self.braces c.args.start c.args.end old.tree new.tree answer
             (range ends boundary)

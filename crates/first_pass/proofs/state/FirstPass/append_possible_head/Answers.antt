@@ -1,10 +1,11 @@
-use Rattle.std.proofs.Common.{◌≡◌, ◌+◌, ◌≤◌, ℕ, List, length, drop, Option, Some, None, IfSome, IsCharBoundary, sym, ap, subst, ◌∙◌, arith, length-take-le}
+use Rattle.std.proofs.Common.{◌+◌, ◌≤◌, ℕ, List, length, drop, Option, Some, None, IfSome, IsCharBoundary, sym, ap, subst, ◌∙◌, arith, length-take-le}
 use Rattle.first_pass_grammar.proofs.Common.{false≢true, line_len, text_upto}
 use Rattle.first_pass_blocks.proofs.Common.{named_more, names_of, extends_both, extends_alignments, line_stops}
 use Rattle.first_pass.specs.Views.{allocs_of, tree_of}
 use Rattle.first_pass_order.proofs.OrderLemmas.{ordered_at_later}
 use Rattle.first_pass.proofs.Chains.{chain_later}
 use Rattle.first_pass.proofs.Closable.{closable_later}
+use Rattle.first_pass.proofs.OrderJoin.{before_cut, front_of}
 use Rattle.first_pass.proofs.state.FirstPass.append_possible_head.Goals as goal
 
 upto_within : (text : List ℕ) (start : ℕ) (end : Option ℕ) → IfSome end (λ e. (start ≤ e) × (e ≤ length text)) → length (text_upto text end) ≤ length text
@@ -35,10 +36,12 @@ returns-clause-tokens c =
         named = λ h. named_more last mid (tree_of c.append_content.new.self).nodes grown (e.kept.named h);
       };
       state = e.state;
-      boundary = λ whole boundary.
-          let bytes : c.text_upto-bytes.result.now ≡ text = c.text_upto-bytes.ensures.value ∙ ap (text_upto text) whole in
-          let there = value ∙ ap (λ t. next + line_len (drop next t)) bytes in
-          subst (IsCharBoundary text) (sym there) (line_stops text next c.in_ok-next.ensures.place.utf8 (e.boundary whole boundary));
+      boundary = λ ends boundary.
+          let there = value ∙ ap (λ t. next + line_len (drop next t)) c.text_upto-bytes.ensures.value in
+          let place = c.in_ok-next.ensures.place in
+          let f = front_of text next c.args.end
+          (record { utf8 = place.utf8; boundary = e.boundary ends boundary; cut = before_cut text c.args.end next ends place.within }) in
+          subst (IsCharBoundary text) (sym there) (f.place _ (line_stops (text_upto text c.args.end) next f.utf8 f.boundary));
       order = λ ends boundary at low o.
           ordered_at_later text c.append_content.new.self.pass.state next c.next_line.result later (omega arith) (e.order ends boundary at low o);
       closable = λ ends boundary at low h.

@@ -1,10 +1,11 @@
-use Rattle.std.proofs.Common.{◌+◌, None, refl, sym, subst}
+use Rattle.std.proofs.Common.{◌+◌, drop, None, IsCharBoundary, refl, sym, ap, subst, ◌∙◌}
 use Rattle.first_pass_grammar.proofs.Common.{rule_block}
-use Rattle.first_pass_blocks.proofs.Common.{names_of, PassState, IsOrderedAt, block_added, block_ordered}
+use Rattle.first_pass_blocks.proofs.Common.{names_of, PassState, IsOrderedAt, block_added, block_ordered, line_stops}
 use Rattle.first_pass_grammar.proofs.Names.MoreNames.{extends_none}
 use Rattle.first_pass.specs.Closable.{IsClosable}
 use Rattle.first_pass.proofs.CallsNamed.{rule_named}
 use Rattle.first_pass.proofs.Closable.{closable_added}
+use Rattle.first_pass.proofs.LineLengths.{rule_line}
 use Rattle.first_pass.proofs.state.FirstPass.parse_hrule.Goals as goal
 
 pub returns : goal.returns
@@ -34,4 +35,7 @@ returns c =
           (block_ordered text old new at c.args.ix (c.args.ix + c.args.hrule_size) h.read.0 low (λ from before. e.fits text from before begins ends) ends.0
           refl));
       following = e.following;
+      boundary = λ rule begins.
+          let size = ap (λ n. c.args.ix + n) (rule_line (drop c.args.ix text) c.args.hrule_size rule) in
+          subst (IsCharBoundary text) (sym (e.following ∙ size)) (line_stops text c.args.ix c.recall_utf8.ensures begins);
     }

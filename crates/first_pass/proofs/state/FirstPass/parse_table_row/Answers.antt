@@ -4,7 +4,7 @@ use Rattle.first_pass_blocks.proofs.Common.{names_of, OpenTable, ReadsRowLine}
 use Rattle.first_pass_tables.specs.Appends.{open_table}
 use Rattle.first_pass_tables.proofs.RowsAdded.{line_row_ends, line_row_none}
 use Rattle.first_pass.proofs.CallsNamed.{row_line_named}
-use Rattle.first_pass.proofs.RowsOrdered.{row_read}
+use Rattle.first_pass.proofs.RowsOrdered.{line_row_stops, row_read}
 use Rattle.first_pass.proofs.state.FirstPass.parse_table_row.Goals as goal
 
 pub returns : goal.returns
@@ -22,5 +22,6 @@ returns c =
       reads = row_read self _ c.args.ix row
           (record { source = refl; more = e.more; named = row_line_named d c.args.row_cells c.args.ix before after row _ e.more.names e.row }) e.texts refl
           c.requires.boundary.0 (line_row_none d c.args.row_cells c.args.ix before after row e.row)
-          (line_row_ends d c.args.row_cells c.args.ix before after row e.utf8 c.requires.boundary e.row) (λ begins. e.fits);
+          (line_row_ends d c.args.row_cells c.args.ix before after row e.utf8 c.requires.boundary e.row)
+          (λ begins. line_row_stops d c.args.row_cells c.args.ix before after row e.utf8 begins e.row) (λ begins. e.fits);
     }
