@@ -1,5 +1,5 @@
 -- The order in a pass between two calls: a block with text begins, and the last block has ended.
-use Rattle.std.proofs.Common.{◌≡◌, inl, inr, ℕ, zero, suc, ◌+◌, ◌≤◌, true, false, List, [], ◌∷◌, length, Some, None, IfSome, slice_get, slice_index, refl}
+use Rattle.std.proofs.Common.{◌≡◌, inl, inr, ℕ, zero, suc, ◌+◌, ◌≤◌, true, false, List, [], ◌∷◌, length, Option, Some, IfSome, slice_get, slice_index, refl}
 use Rattle.std.proofs.Common.{sym, ap}
 use Rattle.std.proofs.Common.{subst, ◌∙◌, arith, option_map, IsCharBoundary, length-append}
 use Rattle.first_pass_grammar.proofs.Common.{false≢true, Item, ItemBody, TreeIndex, Forest, item_at, modify, with_end_at, depths}
@@ -7,7 +7,8 @@ use Rattle.first_pass_grammar.proofs.Common.{Options, IsOrderedTo, FitsOpen, ext
 use Rattle.first_pass_blocks.proofs.Common.{begun_item, is_list, PassState, IsReadFrom, IsReadTo, reached, ordered_later, ordered_none}
 use Rattle.std.proofs.lemmas.List.{length-map}
 use Rattle.first_pass_tree.specs.Forest.{IsForest, IsLastAt, IsOpenPath}
-use Rattle.first_pass_open.specs.OpenBlock.{IsJustPushed}
+use Rattle.first_pass_open.specs.Between.{MarkerBetween}
+use Rattle.first_pass_open.specs.OpenBlock.{IsJustPushed, with_child}
 use Rattle.first_pass_containers.proofs.OrderSteps.{top_begun}
 use Rattle.first_pass_items.specs.declared.item.ItemBody.TheVariants.{ListItem, DefinitionListDefinition}
 use Rattle.first_pass_lists.specs.Closing.{begun, is_item, top_body, with_block}
@@ -17,7 +18,7 @@ use Rattle.first_pass_order.proofs.OrderLemmas.{get_mid, ordered_begun}
 use Rattle.first_pass_order.proofs.RowSplits.{current_child, open_last_fits}
 use Rattle.first_pass.specs.Closable.{IsClosable}
 use Rattle.first_pass.specs.Holds.{HoldsChain}
-use Rattle.first_pass.proofs.Chains.{chain_in}
+use Rattle.first_pass.proofs.Chains.{chain_in, marked_is}
 use Rattle.first_pass.proofs.Closable.{closable_by}
 use Rattle.first_pass.proofs.OrderJoin.{ordered_ended}
 
@@ -54,22 +55,23 @@ module _ (start : ℕ) (body : ItemBody) (r : PassState) where
       let size = length-append r.tree.nodes (opened_node ∷ []) in
       record { rest = r.tree.spine; innermost = refl; last = omega arith; none = refl }
 
-  -- It contains an empty chain.
-  pub chain_begun : (text : List ℕ) → is_text_block body ≡ true → IsCharBoundary text start → HoldsChain text (begun start body r).tree block start
-  chain_begun text is_text starts =
+  -- It contains an empty chain, after the marker of its task list item if that is appended to it.
+  pub chain_begun : (text : List ℕ) (from : ℕ) (marker : Option Item) → is_text_block body ≡ true → IsCharBoundary text start
+      → MarkerBetween text from start marker → HoldsChain text (with_child (begun start body r).tree marker) block start
+  chain_begun text from marker is_text starts stands =
       let here : start ≤ start = omega arith in
       let tree : Forest Item = (begun start body r).tree in
-      chain_in text tree tree block start []
+      chain_in text (with_child tree marker) tree block start []
       (record {
         node = begun_item start body;
-        marker = None;
-        from = start;
+        marker = marker;
+        from = from;
         opened = just_pushed;
         begun = ap (option_map (λ (n : ℕ × Item). n.1)) (get_mid r.tree.nodes opened_node []);
         has_text = is_text;
         starts = starts;
-        stands = here;
-      }) here refl
+        stands = stands;
+      }) here (sym (marked_is tree marker []))
 
 -- The open nodes can be closed if it is no list, and if it is an item directly in a list.
 begun_closable : (text : List ℕ) (r : PassState) (at start : ℕ) (body : ItemBody) → IsReadTo text r at → at ≤ start → IsCharBoundary text start

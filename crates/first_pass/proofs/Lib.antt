@@ -6,6 +6,7 @@ pub mod Closable
 pub mod CutOrder
 pub mod Later
 pub mod LineLengths
+pub mod MarkedText
 pub mod OrderJoin
 pub mod RowsOrdered
 pub mod TextTokens

@@ -2,6 +2,7 @@
 
 ghost use Rattle.first_pass.specs.Closable.{HasEndedBy, IsClosable};
 ghost use Rattle.first_pass.specs.Holds.{HoldsChain, HoldsText, HoldsTokens};
+ghost use Rattle.first_pass.specs.Views.{with_tree};
 ghost use Rattle.first_pass_grammar.specs.Counting.{counted_nodes, inserted_cells};
 ghost use Rattle.first_pass_grammar.specs.Leaves.{Document, TextLines};
 ghost use Rattle.first_pass_grammar.specs.Names.{Names};
@@ -14,12 +15,13 @@ ghost use Rattle.first_pass_items.specs.declared.option_set.Options.{Options};
 ghost use Rattle.first_pass_lines.specs.Places.{start_of};
 ghost use Rattle.first_pass_lists.specs.Closing.{begun, is_item, is_list, top_body, with_block};
 ghost use Rattle.first_pass_lists.specs.declared.state.PassState.{PassState};
+ghost use Rattle.first_pass_open.specs.Between.{MarkerBetween, MarkerIsInItem};
 ghost use Rattle.first_pass_open.specs.OpenBlock.{IsJustPushed};
 ghost use Rattle.first_pass_order.specs.Ordered.{IsReadFrom, IsReadTo};
 ghost use Rattle.first_pass_tables.specs.Appends.{IsOpenNode};
 ghost use Rattle.first_pass_tokens.specs.NamedTexts.{dash_counts};
 ghost use Rattle.first_pass_tree.specs.declared.tree_index.TreeIndex.{TreeIndex};
-ghost use Rattle.first_pass_tree.specs.Forest.{item_at, Forest, IsForest};
+ghost use Rattle.first_pass_tree.specs.Forest.{appended, item_at, Forest, IsForest};
 ghost use Rattle.std.specs.Prelude.{◌≡◌, ◌==◌, ◌≤◌, ◌+◌, ◌*◌, ◌%◌, ℕ, false, length, true, IsCharBoundary, IsUtf8, List, Some};
 
 /// The children of a paragraph whose lines were read are tokens, and the tree is in order up to the end of these
@@ -33,7 +35,8 @@ pub fn lines_are_tokens()
 /// A block is opened, and nothing in it is read yet. It is the innermost open node and the last one. The open nodes can
 /// be closed there if it is no list and is not opened directly in one, or if it is an item. So an item can be opened
 /// after `continue_list`. If the block has text, it contains an empty chain, so its lines can be read one by one by
-/// `parse_line` (CommonMark 4.8, 5.2, and this project).
+/// `parse_line`. The open nodes can also be closed, and the chain is empty, after the marker of a task list item is
+/// appended to a block with text in that item (CommonMark 4.8, 5.2, GFM 5.3, and this project).
 pub fn block_begins()
     ensures pushed { (start : ℕ) (body : ItemBody) (r : PassState)
         → IsJustPushed (begun start body r).tree (record { 0 = length r.tree.nodes })
@@ -48,6 +51,12 @@ pub fn block_begins()
     ensures chain { (text : List ℕ) (start : ℕ) (body : ItemBody) (r : PassState) → is_text_block body ≡ true
         → IsCharBoundary text start
         → HoldsChain text (begun start body r).tree (record { 0 = length r.tree.nodes }) start }
+    ensures marked { (text : List ℕ) (r : PassState) (at from start : ℕ) (body : ItemBody) (marker : Item)
+        → IsClosable text r at → at ≤ from → MarkerIsInItem r.tree (Some marker)
+        → MarkerBetween text from start (Some marker) → is_text_block body ≡ true → IsCharBoundary text start
+        → let opened = begun start body (with_block r r.tree) in
+        IsClosable text (with_tree opened (appended opened.tree marker)) start
+        × HoldsChain text (appended opened.tree marker) (record { 0 = length r.tree.nodes }) start }
 {}
 
 /// The open nodes can be closed at an offset that is not before the end of the last block, also if that is an HTML
@@ -79,10 +88,13 @@ pub fn nodes_are_counted()
         → counted_nodes f.nodes ≤ 1 + 4 * at → length f.nodes ≤ 1 + 4 * at + inserted_cells f.nodes }
 {}
 
-/// Em and en dashes for a run of n hyphens stand for n hyphens: three for each em dash, and two for each en dash. If
-/// neither 3 nor 2 divides n, no fewer en dashes do (this project).
+/// Em and en dashes for a run of n hyphens stand for n hyphens: three for each em dash, and two for each en dash. If 3
+/// divides n, there are only em dashes; if 2 does and 3 does not, only en dashes. If neither does, no fewer en dashes
+/// do (this project).
 pub fn law_of_dashes()
     ensures sum { (n : ℕ) → 2 ≤ n → 3 * (dash_counts n).0 + 2 * (dash_counts n).1 ≡ n }
+    ensures threes { (n : ℕ) → (n % 3 == 0) ≡ true → (dash_counts n).1 ≡ 0 }
+    ensures twos { (n : ℕ) → (n % 3 == 0) ≡ false → (n % 2 == 0) ≡ true → (dash_counts n).0 ≡ 0 }
     ensures fewest { (n em en : ℕ) → (n % 3 == 0) ≡ false → (n % 2 == 0) ≡ false → 3 * em + 2 * en ≡ n
         → (dash_counts n).1 ≤ en }
 {}

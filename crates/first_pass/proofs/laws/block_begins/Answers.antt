@@ -1,6 +1,7 @@
-use Rattle.std.proofs.Common.{length, refl}
+use Rattle.std.proofs.Common.{length, Some, None, refl, arith}
 use Rattle.first_pass_containers.proofs.OrderSteps.{top_begun}
 use Rattle.first_pass.proofs.BetweenCalls.{chain_begun, closable_begun, item_begun, just_pushed}
+use Rattle.first_pass.proofs.MarkedText.{marked_closable}
 use Rattle.first_pass.proofs.laws.block_begins.Goals as goal
 
 pub returns-clause-pushed : goal.returns-clause-pushed
@@ -18,4 +19,10 @@ pub returns-clause-item : goal.returns-clause-item
 returns-clause-item c = λ text r at start body read low starts item. item_begun text r at start body read low starts item
 
 pub returns-clause-chain : goal.returns-clause-chain
-returns-clause-chain c = λ text start body r is_text starts. chain_begun start body r text is_text starts
+returns-clause-chain c = λ text start body r is_text starts. chain_begun start body r text start None is_text starts (omega arith)
+
+pub returns-clause-marked : goal.returns-clause-marked
+returns-clause-marked c = λ text r at from start body marker closable early inside stands is_text starts. (
+  marked_closable text r at from start body marker closable early inside is_text starts stands.0 stands.1,
+  chain_begun start body r text from (Some marker) is_text starts stands,
+)
