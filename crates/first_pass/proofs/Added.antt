@@ -1,19 +1,20 @@
 -- A leaf block that is added to a pass, and what stays the same.
 use Rattle.std.proofs.Common.{◌≡◌, ℕ, ◌≤◌, Bool, List, length, None, IsCharBoundary, ap}
-use Rattle.first_pass_grammar.proofs.Common.{Item, added, AreNamed}
+use Rattle.first_pass_grammar.proofs.Common.{Item, added, AreEachNode, AreNamed, ShowsNothing}
 use Rattle.first_pass_blocks.proofs.Common.{names_of, NamesMore, line_end_at, AddsBetween, state_with, PassState, block_added, block_ordered}
 use Rattle.first_pass.specs.declared.state.FirstPass.{FirstPass}
 use Rattle.first_pass.specs.Calls.{AddsLeafBlock, AddsLineBlock}
 use Rattle.first_pass.specs.Kept.{KeepsNames}
 use Rattle.first_pass.specs.Views.{allocs_of, braces_of, state_of, source_of, source_text, tree_of}
 use Rattle.first_pass.proofs.Closable.{closable_added}
+use Rattle.first_pass.proofs.TablesWhole.{silent_whole}
 
--- These items were added. Otherwise only the tables of entries, the mark of an empty item, and the mark of a counting
+-- These items were added, which are no part of a table. Otherwise only the tables of entries, the mark of an empty item, and the mark of a counting
 -- blank line before may have changed.
 module _ {old new : FirstPass} {blank : Bool} (items : List (ℕ × Item))
     (same : (source_of new ≡ source_of old) × (braces_of new ≡ braces_of old) × (state_of new ≡ state_with (tree_of new) None blank))
     (more : NamesMore (allocs_of old) (allocs_of new)) (tree_is : tree_of new ≡ added (tree_of old) items)
-    (own : AreNamed (names_of (allocs_of new)) items) where
+    (own : AreNamed (names_of (allocs_of new)) items) (shows : AreEachNode ShowsNothing items) where
   pub adds_kept : KeepsNames old new
   adds_kept = record {
     entries = record {
@@ -29,6 +30,7 @@ module _ {old new : FirstPass} {blank : Bool} (items : List (ℕ × Item))
       → next ≤ length (source_text old) → AddsLeafBlock old new start next blank
   adds_leaf {start = start} {next = next} fits within = record {
     kept = adds_kept;
+    whole = silent_whole (names_of (allocs_of new)) (names_of (allocs_of old)) (tree_of old) (tree_of new) items more.names tree_is shows;
     state = same.2;
     fits = fits;
     order = λ at low begins o.

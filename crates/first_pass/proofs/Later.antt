@@ -1,5 +1,5 @@
 -- What was read, up to another offset: one that is not before the last child of the innermost open node.
-use Rattle.std.proofs.Common.{◌≡◌, inl, inr, ℕ, suc, ◌+◌, ◌≤◌, List, [], ◌∷◌, ◌++◌, length, slice_get, Option, Some, None, IfSome, IsSomeAnd, refl, sym, ap}
+use Rattle.std.proofs.Common.{◌≡◌, inl, inr, ℕ, suc, ◌+◌, ◌≤◌, List, [], ◌∷◌, length, slice_get, Option, Some, None, IfSome, IsSomeAnd, refl, sym, ap}
 use Rattle.std.proofs.Common.{subst, ◌∙◌, arith, option_map, length-append}
 use Rattle.first_pass_grammar.proofs.Common.{Item, TreeIndex, Forest, IsForest, item_at, open_place, Options, Ranged, extent_of, extents, Siblings, Empty}
 use Rattle.first_pass_grammar.proofs.Common.{laid, Within, Elsewhere, InItem, InText, InFirst, below, beyond, IsLead, Fits, laid_open, AreAt, open_within}

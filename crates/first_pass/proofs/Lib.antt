@@ -9,4 +9,5 @@ pub mod LineLengths
 pub mod MarkedText
 pub mod OrderJoin
 pub mod RowsOrdered
+pub mod TablesWhole
 pub mod TextTokens

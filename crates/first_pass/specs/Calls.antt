@@ -17,7 +17,7 @@ use Rattle.first_pass_grammar.specs.CodeBlocks.{IsFencedCode, IsMetadata}
 use Rattle.first_pass_grammar.specs.HtmlBlocks.{IsHtml}
 use Rattle.first_pass_grammar.specs.Leaves.{document, rule_block}
 use Rattle.first_pass_grammar.specs.Names.{Names, AreNamed, index_of}
-use Rattle.first_pass_grammar.specs.Order.{GrowsBy}
+use Rattle.first_pass_grammar.specs.Order.{GrowsBy, is_task_marker}
 use Rattle.first_pass_grammar.specs.OpenOrder.{IsOrderedTo}
 use Rattle.first_pass_grammar.specs.WholeTables.{HasWholeTables}
 use Rattle.first_pass_names.specs.TableEntries.{names_of, tables_of, NamesMore, AddsTexts}
@@ -43,7 +43,7 @@ use Rattle.first_pass.specs.declared.state.FirstPass.{FirstPass}
 use Rattle.first_pass.specs.Closable.{IsClosable}
 use Rattle.first_pass.specs.Holds.{after_row, ContinuesChain, HoldsChain, IsTableOpen}
 use Rattle.first_pass.specs.Lines.{ReadsInMode}
-use Rattle.first_pass.specs.Kept.{StayNamed, KeepsEntries, KeepsNames, KeepsTables}
+use Rattle.first_pass.specs.Kept.{StayNamed, StayWhole, KeepsEntries, KeepsNames, KeepsTables}
 use Rattle.first_pass.specs.Views.{allocs_of, braces_of, context_in, document_named, pass_of, state_of, source_of}
 use Rattle.first_pass.specs.Views.{source_options, source_text, tree_of, with_tree}
 
@@ -99,9 +99,10 @@ pub record FinishesItem (old new : FirstPass) : Type 0 where
 -- A leaf block that begins at an offset is added, and reading continues at another. No item is empty after it, and
 -- `blank` is true if a counting blank line is directly before the next line. The new nodes lie between the two
 -- offsets. The state is in order up to the second offset if the first is a character boundary, and its open nodes can
--- still be closed (this project).
+-- still be closed. Whole tables stay whole (this project).
 pub record AddsLeafBlock (old new : FirstPass) (start next : ℕ) (blank : Bool) : Type 0 where
   pub kept : KeepsNames old new
+  pub whole : StayWhole old new
   pub state : state_of new ≡ state_with (tree_of new) None blank
   pub fits : (from : ℕ) → from ≤ start → IsCharBoundary (source_text old) start → AddsBetween (source_text old) from next (tree_of old) (tree_of new)
   pub order : (at : ℕ) → at ≤ start → IsCharBoundary (source_text old) start → IsOrderedAt (source_text old) (state_of old) at
@@ -150,12 +151,13 @@ pub record AddsHtmlToEnd (old new : FirstPass) (start : ℕ) (until : BlockEnd) 
 -- An HTML block after these columns is added that ends before a blank line. Its nodes lie between an offset and the
 -- block's end, which may be after the container prefixes of the blank line. Reading continues at the start of that
 -- line. The state is in order up to there, or the tree is in order up to after these prefixes. The open nodes can still
--- be closed in order. No counting blank line is before that line, so it ends no footnote definition in the old form
--- (CommonMark 4.6, and this project).
+-- be closed in order. No counting blank line is before that line, so it ends no footnote definition in the old form.
+-- Whole tables stay whole (CommonMark 4.6, and this project).
 pub record AddsHtmlToBlank (old new : FirstPass) (start columns next : ℕ) : Type 0 where
   pub block : (p : Place) → IsPlaceAt (source_text old) start p → let e = html_to_blank (source_text old) (context_in old).path p in
       AddsRaw (document_named old new) (λ d. IsHtml d start columns e.places e.«end») e.left (tree_of old) (tree_of new) next
   pub kept : KeepsNames old new
+  pub whole : StayWhole old new
   pub state : state_of new ≡ state_with (tree_of new) None false
   pub later : line_end_at (source_text old) start ≤ next
   pub boundary : IsCharBoundary (source_text old) next
@@ -185,13 +187,15 @@ pub record AddsRule (old new : FirstPass) (ix size next : ℕ) : Type 0 where
 
 -- The paragraph, setext heading or table at an offset is added, after the marker of its task list item if it has one.
 -- Its nodes lie between the start of the text, or of that marker, and the offset at which reading continues. If the
--- marker has no index, each index names an entry if each did before (CommonMark 4.8, GFM 5.3, and this project).
+-- marker has no index, each index names an entry if each did before. If it is that of a task list item, whole tables
+-- stay whole (CommonMark 4.8, GFM 5.3, and this project).
 pub record AddsParagraph (old new : FirstPass) (start : ℕ) (marker : Option Item) (next : ℕ) : Type 0 where
   pub block : AddsText (document_named old new) start marker (tree_of old) (tree_of new) next
   pub source : source_of new ≡ source_of old
   pub more : NamesMore (allocs_of old) (allocs_of new)
   pub braces : braces_of new ≡ braces_of old
   pub named : IfSome marker (λ x. index_of x.body ≡ None) → StayNamed old new
+  pub whole : IfSome marker (λ x. is_task_marker x.body ≡ true) → StayWhole old new
   pub state : state_of new ≡ with_block (state_of old) (tree_of new)
   pub fits : MarkerIsInItem (tree_of old) marker → (from : ℕ) → MarkerBetween (source_text old) from start marker
       → AddsBetween (source_text old) from next (tree_of old) (tree_of new)
@@ -201,10 +205,12 @@ pub record AddsParagraph (old new : FirstPass) (start : ℕ) (marker : Option It
       → IsClosable (source_text old) (state_of old) at → IsClosable (source_text old) (state_of new) next
 
 -- A raw line between two offsets is appended, after the columns owed before it. The state is in order up to the line's
--- end if both offsets are character boundaries, and its open nodes can still be closed (this project).
+-- end if both offsets are character boundaries, and its open nodes can still be closed. Whole tables stay whole (this
+-- project).
 pub record AppendsRawLine (kind : RawKind) (old new : FirstPass) (owed start «end» : ℕ) : Type 0 where
   pub line : AppendsRaw (range_of kind) (source_text old) (names_of (allocs_of new)) owed start «end» (tree_of old) (tree_of new)
   pub kept : KeepsNames old new
+  pub whole : StayWhole old new
   pub state : state_of new ≡ with_block (state_of old) (tree_of new)
   pub order : (at : ℕ) → at ≤ start → IsCharBoundary (source_text old) start → IsCharBoundary (source_text old) «end»
       → IsOrderedAt (source_text old) (state_of old) at → IsOrderedAt (source_text old) (state_of new) «end»
@@ -213,9 +219,10 @@ pub record AppendsRawLine (kind : RawKind) (old new : FirstPass) (owed start «e
 
 -- The tokens between two offsets of a text, which may be cut at `end`, are appended: at most one for each byte, and in
 -- order if the first offset and the cut are character boundaries. The second offset then is one, too. The item to which
--- the tokens are added is no longer empty (CommonMark 2.4, GFM 4.10, and this project).
+-- the tokens are added is no longer empty. Whole tables stay whole (CommonMark 2.4, GFM 4.10, and this project).
 pub record AppendsTokens (old new : FirstPass) (start : ℕ) (end : Option ℕ) (stop : ℕ) : Type 0 where
   pub kept : KeepsEntries old new
+  pub whole : StayWhole old new
   pub state : state_of new ≡ with_block (state_of old) (tree_of new)
   pub boundary : IfSome end (λ e. IsCharBoundary (source_text old) e) → IsCharBoundary (source_text old) start → IsCharBoundary (source_text old) stop
   pub order : IfSome end (λ e. IsCharBoundary (source_text old) e) → IsCharBoundary (source_text old) start → (at : ℕ) → at ≤ start
@@ -294,11 +301,12 @@ pub record ReadsTableLine (old new : FirstPass) (wanted : CellsWanted) (inserted
   pub reads : ReadsRowFrom old new wanted.start (after_row row wanted.start)
 
 -- The head of a footnote definition is sought at an offset; `size` is the number of bytes of the head, if one begins
--- there. Then its definition is open and in order. The brace contexts are unchanged, and each index names an entry if
--- each did before (this project).
+-- there. Then its definition is open and in order. The brace contexts are unchanged. Each index names an entry if each
+-- did before, and the tables among the nodes are then whole if they were (this project).
 pub record OpensFootnote (old new : FirstPass) (start : ℕ) (size : Option ℕ) : Type 0 where
   pub braces : braces_of new ≡ braces_of old
   pub named : StayNamed old new
+  pub whole : StayWhole old new
   pub head : ReadsFootnote (pass_of old) (pass_of new) start size
   pub none : size ≡ None → StaysSame (pass_of old) (pass_of new)
   pub within : IfSome size (λ n. (3 < n) × IsCharBoundary (source_text old) (start + n))

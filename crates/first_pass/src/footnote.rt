@@ -19,6 +19,7 @@ impl<'a> FirstPass<'a> {
         ensures { SeeksFootnote self.old self.new start result }
     {
         let pass = &mut self.pass;
+        pass.state.tree.recall_forest();
         let size = pass.parse_footnote(start)?;
         Ok(size)
     }

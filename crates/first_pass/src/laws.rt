@@ -3,12 +3,12 @@
 ghost use Rattle.first_pass.specs.Closable.{HasEndedBy, IsClosable};
 ghost use Rattle.first_pass.specs.Holds.{HoldsChain, HoldsText, HoldsTokens};
 ghost use Rattle.first_pass.specs.Views.{with_tree};
-ghost use Rattle.first_pass_grammar.specs.Counting.{counted_nodes, inserted_cells};
+ghost use Rattle.first_pass_grammar.specs.Counting.{counted_nodes, inserted_cells, is_row};
 ghost use Rattle.first_pass_grammar.specs.Leaves.{Document, TextLines};
 ghost use Rattle.first_pass_grammar.specs.Names.{Names};
 ghost use Rattle.first_pass_grammar.specs.OpenOrder.{IsOrderedTo};
 ghost use Rattle.first_pass_grammar.specs.Order.{is_task_marker, is_text_block};
-ghost use Rattle.first_pass_grammar.specs.WholeTables.{HasWholeTables};
+ghost use Rattle.first_pass_grammar.specs.WholeTables.{HasWholeTables, ShowsNothing, may_be_title};
 ghost use Rattle.first_pass_items.specs.declared.item.Item.{Item};
 ghost use Rattle.first_pass_items.specs.declared.item.ItemBody.{ItemBody};
 ghost use Rattle.first_pass_items.specs.declared.option_set.Options.{Options};
@@ -22,7 +22,7 @@ ghost use Rattle.first_pass_tables.specs.Appends.{IsOpenNode};
 ghost use Rattle.first_pass_tokens.specs.NamedTexts.{dash_counts};
 ghost use Rattle.first_pass_tree.specs.declared.tree_index.TreeIndex.{TreeIndex};
 ghost use Rattle.first_pass_tree.specs.Forest.{appended, item_at, Forest, IsForest};
-ghost use Rattle.std.specs.Prelude.{◌≡◌, ◌==◌, ◌≤◌, ◌+◌, ◌*◌, ◌%◌, ℕ, false, length, true, IsCharBoundary, IsUtf8, List, Some};
+ghost use Rattle.std.specs.Prelude.{◌≡◌, ◌==◌, ◌≤◌, ◌+◌, ◌*◌, ◌%◌, ◌||◌, ℕ, false, length, true, IsCharBoundary, IsUtf8, List, Some};
 
 /// The children of a paragraph whose lines were read are tokens, and the tree is in order up to the end of these
 /// lines. So `parse_setext_heading` may be called, and keeps that order (CommonMark 4.3, 4.8).
@@ -34,9 +34,10 @@ pub fn lines_are_tokens()
 
 /// A block is opened, and nothing in it is read yet. It is the innermost open node and the last one. The open nodes can
 /// be closed there if it is no list and is not opened directly in one, or if it is an item. So an item can be opened
-/// after `continue_list`. If the block has text, it contains an empty chain, so its lines can be read one by one by
-/// `parse_line`. The open nodes can also be closed, and the chain is empty, after the marker of a task list item is
-/// appended to a block with text in that item (CommonMark 4.8, 5.2, GFM 5.3, and this project).
+/// after `continue_list`. Whole tables stay whole if it is no part of a table, and no text that a definition list may
+/// take in. If the block has text, it contains an empty chain, so its lines can be read one by one by `parse_line`. The
+/// open nodes can also be closed, and the chain is empty, after the marker of a task list item is appended to a block
+/// with text in that item (CommonMark 4.8, 5.2, GFM 5.3, and this project).
 pub fn block_begins()
     ensures pushed { (start : ℕ) (body : ItemBody) (r : PassState)
         → IsJustPushed (begun start body r).tree (record { 0 = length r.tree.nodes })
@@ -48,6 +49,9 @@ pub fn block_begins()
     ensures item { (text : List ℕ) (r : PassState) (at start : ℕ) (body : ItemBody) → IsReadTo text r at → at ≤ start
         → IsCharBoundary text start → is_item (Some body) ≡ true
         → IsClosable text (begun start body (with_block r r.tree)) start }
+    ensures whole { (names : Names) (start : ℕ) (body : ItemBody) (r : PassState) → ShowsNothing body
+        → (is_row body || may_be_title body) ≡ false → HasWholeTables names r.tree
+        → HasWholeTables names (begun start body r).tree }
     ensures chain { (text : List ℕ) (start : ℕ) (body : ItemBody) (r : PassState) → is_text_block body ≡ true
         → IsCharBoundary text start
         → HoldsChain text (begun start body r).tree (record { 0 = length r.tree.nodes }) start }

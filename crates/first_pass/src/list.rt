@@ -19,6 +19,7 @@ impl<'a> FirstPass<'a> {
         ensures { ClosesNode self.old self.new ix (popped ix (state_of self.old)) }
     {
         let pass = &mut self.pass;
+        pass.state.tree.recall_forest();
         pass.state.pop(ix);
     }
 
@@ -39,6 +40,7 @@ impl<'a> FirstPass<'a> {
         ensures { ClosesLists self.old self.new ix (list_finished ix (state_of self.old)) }
     {
         let pass = &mut self.pass;
+        pass.state.tree.recall_forest();
         pass.state.finish_list(ix);
     }
 
@@ -49,6 +51,7 @@ impl<'a> FirstPass<'a> {
             (RemembersAt self.old self.new start (list_continued start ch index (state_of self.old))) }
     {
         let pass = &mut self.pass;
+        pass.state.tree.recall_forest();
         pass.state.continue_list(start, ch, index)?;
         Ok(())
     }

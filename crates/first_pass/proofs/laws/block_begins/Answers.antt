@@ -1,5 +1,6 @@
 use Rattle.std.proofs.Common.{length, Some, None, refl, arith}
 use Rattle.first_pass_containers.proofs.OrderSteps.{top_begun}
+use Rattle.first_pass_order.proofs.WholeKept.{kept_of, opened_whole}
 use Rattle.first_pass.proofs.BetweenCalls.{chain_begun, closable_begun, item_begun, just_pushed}
 use Rattle.first_pass.proofs.MarkedText.{marked_closable}
 use Rattle.first_pass.proofs.laws.block_begins.Goals as goal
@@ -17,6 +18,9 @@ returns-clause-closable c = λ text r at start body closable low starts other. c
 
 pub returns-clause-item : goal.returns-clause-item
 returns-clause-item c = λ text r at start body read low starts item. item_begun text r at start body read low starts item
+
+pub returns-clause-whole : goal.returns-clause-whole
+returns-clause-whole c = λ names start body r shows other whole. opened_whole names r.tree start body shows other (kept_of names r.tree whole)
 
 pub returns-clause-chain : goal.returns-clause-chain
 returns-clause-chain c = λ text start body r is_text starts. chain_begun start body r text start None is_text starts (omega arith)

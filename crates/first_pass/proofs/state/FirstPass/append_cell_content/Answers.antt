@@ -5,6 +5,7 @@ use Rattle.first_pass_tokens.proofs.BytesLemmas.{few_of_cell}
 use Rattle.first_pass.proofs.CallsNamed.{cell_named}
 use Rattle.first_pass.proofs.Closable.{closable_tokens}
 use Rattle.first_pass.proofs.OrderJoin.{IsRange, both_ends, cell_ends, state_before, ordered_cell}
+use Rattle.first_pass.proofs.TablesWhole.{cell_whole}
 use Rattle.first_pass.proofs.state.FirstPass.append_cell_content.Goals as goal
 
 pub returns : goal.returns
@@ -22,6 +23,7 @@ returns c =
       line = (record { cell = e.cell; ends = e.ends; names = e.texts }, refl);
       tokens = record {
         kept = record { source = refl; more = record { names = e.names; entries = e.entries }; named = cell_named e.names e.cell };
+        whole = cell_whole e.names e.cell;
         state = refl;
         boundary = λ ends boundary.
             cell_ends (document text options no_names) self.braces c.args.start c.args.end old.tree new.tree stop (range ends boundary) e.cell;

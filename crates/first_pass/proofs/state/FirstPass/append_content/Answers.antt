@@ -6,6 +6,7 @@ use Rattle.first_pass.proofs.CallsNamed.{line_named}
 use Rattle.first_pass.proofs.Chains.{AddsTokens, chain_continues, chain_later, closed_by_break, line_adds}
 use Rattle.first_pass.proofs.Closable.{closable_tokens, outside_of}
 use Rattle.first_pass.proofs.OrderJoin.{IsRange, both_ends, line_ends, state_before, ordered_line}
+use Rattle.first_pass.proofs.TablesWhole.{line_whole}
 use Rattle.first_pass.proofs.state.FirstPass.append_content.Goals as goal
 
 pub returns-clause-line : goal.returns-clause-line
@@ -26,6 +27,7 @@ returns-clause-line c =
       line = record { line = e.line; ends = e.ends; names = e.texts };
       tokens = record {
         kept = record { source = refl; more = record { names = e.names; entries = e.entries }; named = line_named e.names e.line };
+        whole = line_whole e.names e.line;
         state = refl;
         boundary = λ ends boundary.
             line_ends (document text options no_names) self.braces c.args.start c.args.end old.tree new.tree answer (range ends boundary) e.line;

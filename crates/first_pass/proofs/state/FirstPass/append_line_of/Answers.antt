@@ -5,6 +5,7 @@ use Rattle.first_pass_raw.proofs.RawOrder.{text_line_in_order, html_line_in_orde
 use Rattle.first_pass.proofs.CallsNamed.{raw_line_named}
 use Rattle.first_pass.proofs.Closable.{closable_tokens}
 use Rattle.first_pass.proofs.OrderJoin.{state_before, tokens_ordered}
+use Rattle.first_pass.proofs.TablesWhole.{raw_line_whole}
 use Rattle.first_pass.proofs.state.FirstPass.append_line_of.Goals as goal
 
 line_in_order : (kind : RawKind) (d : Document) (owed from to : ℕ) (items : List Item) → from ≤ to → IsCharBoundary d.text from → IsCharBoundary d.text to
@@ -34,6 +35,7 @@ returns c =
         };
         braces = refl;
       };
+      whole = raw_line_whole d c.args.kind c.args.remaining_space from to (names_of self.pass.allocs) old.tree new.tree e.more.names e.line;
       state = refl;
       order = λ at low begins ends o.
           tokens_ordered text old new from to e.line.items (state_before text old at from c.recall_forest.ensures o low)

@@ -3,6 +3,7 @@ use Rattle.first_pass_grammar.proofs.Common.{false≢true, line_len, text_upto}
 use Rattle.first_pass_blocks.proofs.Common.{named_more, names_of, extends_both, extends_alignments, line_stops}
 use Rattle.first_pass.specs.Views.{allocs_of, tree_of}
 use Rattle.first_pass_order.proofs.OrderLemmas.{ordered_at_later}
+use Rattle.first_pass_order.proofs.WholeKept.{more_whole}
 use Rattle.first_pass.proofs.Chains.{chain_later}
 use Rattle.first_pass.proofs.Closable.{closable_later}
 use Rattle.first_pass.proofs.OrderJoin.{before_cut, front_of}
@@ -35,6 +36,7 @@ returns-clause-tokens c =
         };
         named = λ h. named_more last mid (tree_of c.append_content.new.self).nodes grown (e.kept.named h);
       };
+      whole = λ named h. more_whole last mid (tree_of c.append_content.new.self) grown (e.kept.named named) (e.whole named h);
       state = e.state;
       boundary = λ ends boundary.
           let there = value ∙ ap (λ t. next + line_len (drop next t)) c.text_upto-bytes.ensures.value in

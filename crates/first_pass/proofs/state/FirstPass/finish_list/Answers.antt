@@ -1,5 +1,5 @@
 use Rattle.std.proofs.Common.{refl, ap, ◌∙◌}
-use Rattle.first_pass_blocks.proofs.Common.{is_list, list_finished_blank, list_finished_named, top_body, PassState}
+use Rattle.first_pass_blocks.proofs.Common.{is_list, list_finished_blank, list_finished_named, list_finished_whole, top_body, PassState}
 use Rattle.first_pass_order.proofs.Nests.{list_finished_outside}
 use Rattle.first_pass_order.proofs.PopOrder.{finish_list_keeps_order}
 use Rattle.first_pass.proofs.state.FirstPass.finish_list.Goals as goal
@@ -7,7 +7,13 @@ use Rattle.first_pass.proofs.state.FirstPass.finish_list.Goals as goal
 pub returns : goal.returns
 returns c = record {
   closes = record {
-    kept = record { source = refl; tables = refl; named = λ h. rw c.finish_list.ensures (list_finished_named _ _ _ h); braces = refl };
+    kept = record {
+      source = refl;
+      tables = refl;
+      named = λ h. rw c.finish_list.ensures (list_finished_named _ _ _ h);
+      whole = λ named h. rw c.finish_list.ensures (list_finished_whole _ c.args.ix c.args.self.now.pass.state c.recall_forest.ensures h);
+      braces = refl;
+    };
     state = c.finish_list.ensures;
     order = λ at later within ends h. finish_list_keeps_order _ _ _ at _ c.finish_list.ensures later within ends h;
   };

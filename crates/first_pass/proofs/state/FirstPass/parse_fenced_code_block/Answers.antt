@@ -4,6 +4,7 @@ use Rattle.first_pass_blocks.proofs.Common.{names_of, extends_none}
 use Rattle.first_pass_blocks.proofs.Leaves.KindBlocks.{fenced_between}
 use Rattle.first_pass.proofs.Added.{adds_lines}
 use Rattle.first_pass.proofs.CallsNamed.{code_named}
+use Rattle.first_pass.proofs.TablesWhole.{code_shows}
 use Rattle.first_pass.proofs.state.FirstPass.parse_fenced_code_block.Goals as goal
 
 pub returns : goal.returns
@@ -16,6 +17,7 @@ returns c =
       block = e.block;
       leaf = adds_lines e.block.items (refl, refl, refl) e.more e.block.tree_is
           (code_named d _ _ _ _ b.chain e.block.items b.items_are (slice_get_within d.names.texts b.info.0 b.names.named b.names.at) b.lines)
+          (code_shows d _ _ _ _ b.chain e.block.items b.items_are (λ names depth start end. refl) b.lines)
           (fenced_between _ _ _ _ _ _ _ e.utf8 c.requires.boundary e.boundary.1.0 c.args.indent c.args.fence_ch c.args.n_fence_char c.requires.fence e.block)
           e.boundary;
     }

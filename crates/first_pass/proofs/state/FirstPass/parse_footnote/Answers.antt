@@ -1,5 +1,5 @@
 use Rattle.std.proofs.Common.{◌≡◌, ◌≤◌, ℕ, Option, Some, None, IfSome, IsCharBoundary, false, refl, sym, ap, ◌∙◌}
-use Rattle.first_pass_grammar.proofs.Common.{none-some, AreNamed}
+use Rattle.first_pass_grammar.proofs.Common.{none-some, AreNamed, HasWholeTables, IsForest}
 use Rattle.first_pass_items.specs.declared.item.CowIndex.{CowIndex}
 use Rattle.first_pass_items.specs.declared.item.ItemBody.TheVariants.{FootnoteDefinition}
 use Rattle.first_pass_lists.specs.Closing.{empty_item_closed, footnote_begun, footnote_left, gap_marked, list_closed}
@@ -8,10 +8,12 @@ use Rattle.first_pass.specs.Closable.{IsClosable}
 use Rattle.first_pass_blocks.proofs.Common.{is_list, names_of, top_body, IsReadTo, PassState, StaysSame, allocs_of, state_of, source_text, tree_of}
 use Rattle.first_pass_blocks.specs.declared.state.BlockPass.{BlockPass}
 use Rattle.first_pass_blocks.specs.OpenedFootnotes.{ReadsFootnote}
+use Rattle.first_pass_grammar.proofs.Names.MoreNames.{extends_named}
 use Rattle.first_pass_lists.proofs.NoEmptyItem.{footnote_begun_none}
 use Rattle.first_pass_blocks.proofs.FootnoteOpened.{IsRead, opened_named}
 use Rattle.first_pass_blocks.proofs.LinkDefinitions.{found_by, none_by}
 use Rattle.first_pass_order.proofs.PopOrder.{footnote_keeps_order}
+use Rattle.first_pass_order.proofs.WholeKept.{more_whole, note_whole}
 use Rattle.first_pass.proofs.state.FirstPass.parse_footnote.Goals as goal
 
 -- no footnote definition begins there, and nothing changed
@@ -35,6 +37,17 @@ named_by old new start None reads h =
 named_by old new start (Some n) reads h =
     opened_named (found_by _ (Some n) n (NoneRead old new (Some n)) (IsRead old new start) reads (λ none. none.0) refl).2.1 h
 
+whole_by : (old new : BlockPass) (start : ℕ) (size : Option ℕ) → IsForest (tree_of old) → ReadsFootnote old new start size
+    → AreNamed (names_of (allocs_of old)) (tree_of old).nodes → HasWholeTables (names_of (allocs_of old)) (tree_of old)
+    → HasWholeTables (names_of (allocs_of new)) (tree_of new)
+whole_by old new start None forest reads named h =
+    let same = (none_by _ None (NoneRead old new None) (IsRead old new start) reads refl).1.1 in rw (same.2, same.1) h
+whole_by old new start (Some n) forest reads named h =
+    let opened = (found_by _ (Some n) n (NoneRead old new (Some n)) (IsRead old new start) reads (λ none. none.0) refl).2.1 in
+    let more = extends_named (names_of (allocs_of old)) (names_of (allocs_of new)) opened.text opened.names in
+    rw opened.opened (note_whole (names_of (allocs_of new)) start opened.index (state_of old) forest
+    (more_whole (names_of (allocs_of new)) (names_of (allocs_of old)) (tree_of old) more named h))
+
 order_by : (old new : BlockPass) (start : ℕ) (size : Option ℕ) → IsCharBoundary (source_text old) start → ReadsFootnote old new start size
     → IfSome size (λ n. (at : ℕ) → at ≤ start → IsReadTo (source_text old) (state_of old) at → IsClosable (source_text old) (state_of new) start)
 order_by old new start None boundary reads = tt
@@ -56,6 +69,7 @@ returns c =
       footnote = record {
         braces = refl;
         named = named_by old new c.args.start c.in_ok-size.size e.head;
+        whole = whole_by old new c.args.start c.in_ok-size.size c.recall_forest.ensures e.head;
         head = e.head;
         none = none_read old new c.args.start c.in_ok-size.size e.head;
         within = e.within;

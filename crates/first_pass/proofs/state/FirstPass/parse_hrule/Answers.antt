@@ -6,6 +6,7 @@ use Rattle.first_pass.specs.Closable.{IsClosable}
 use Rattle.first_pass.proofs.CallsNamed.{rule_named}
 use Rattle.first_pass.proofs.Closable.{closable_added}
 use Rattle.first_pass.proofs.LineLengths.{rule_line}
+use Rattle.first_pass.proofs.TablesWhole.{rule_shows, silent_whole}
 use Rattle.first_pass.proofs.state.FirstPass.parse_hrule.Goals as goal
 
 pub returns : goal.returns
@@ -21,6 +22,8 @@ returns c =
         tables = refl;
         named = block_added names names old.tree new.tree (rule_block c.args.ix c.args.hrule_size) (extends_none names) e.block
             (rule_named names c.args.ix c.args.hrule_size);
+        whole = silent_whole names names old.tree new.tree (rule_block c.args.ix c.args.hrule_size) (extends_none names) e.block
+            (rule_shows c.args.ix c.args.hrule_size);
         braces = refl;
       };
       state = refl;

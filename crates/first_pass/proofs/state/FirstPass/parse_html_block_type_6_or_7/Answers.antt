@@ -9,6 +9,7 @@ use Rattle.first_pass_blocks.proofs.Leaves.KindBlocks.{html_stops, ordered_stopp
 use Rattle.first_pass.proofs.Added.{adds_kept}
 use Rattle.first_pass.proofs.CallsNamed.{html_named}
 use Rattle.first_pass.proofs.Closable.{IsOutside, read_from}
+use Rattle.first_pass.proofs.TablesWhole.{html_block_shows, silent_whole}
 use Rattle.first_pass.proofs.state.FirstPass.parse_html_block_type_6_or_7.Goals as goal
 
 pub returns : goal.returns
@@ -33,9 +34,11 @@ returns c =
     e.boundary.1 refl path (html_stops (length text) (path_of options old.tree) p (lines_from text (after_line_at text (offset p)))) block.left_is
     (block_ordered text old new at c.args.start_ix _ o low
     (to_blank_between _ _ _ _ _ c.args.start_ix _ e.utf8 c.requires.boundary e.boundary.1.0 _ p i block) ends.boundary.0 refl) in
+    let is = block.are names (extends_none names) in
     record {
       block = rw c.max.ensures at e.block;
-      kept = adds_kept {blank = false} block.items (refl, refl, refl) e.more block.tree_is (html_named (block.are names (extends_none names)));
+      kept = adds_kept {blank = false} block.items (refl, refl, refl) e.more block.tree_is (html_named is) (html_block_shows is);
+      whole = silent_whole names (names_of self.pass.allocs) old.tree new.tree block.items e.more.names block.tree_is (html_block_shows is);
       state = refl;
       later = e.boundary.0;
       boundary = e.boundary.1;

@@ -4,6 +4,7 @@ use Rattle.first_pass_blocks.proofs.Common.{names_of, extends_none, first_at, fi
 use Rattle.first_pass_blocks.proofs.Leaves.KindBlocks.{indented_between}
 use Rattle.first_pass.proofs.Added.{adds_lines}
 use Rattle.first_pass.proofs.CallsNamed.{code_named}
+use Rattle.first_pass.proofs.TablesWhole.{code_shows}
 use Rattle.first_pass.proofs.state.FirstPass.parse_indented_code_block.Goals as goal
 
 pub returns : goal.returns
@@ -16,5 +17,6 @@ returns c =
     record {
       block = e.block;
       leaf = adds_lines block.items (refl, refl, refl) e.more block.tree_is (code_named d _ _ _ _ b.chain block.items b.items_are tt b.lines)
+          (code_shows d _ _ _ _ b.chain block.items b.items_are (λ names depth start end. refl) b.lines)
           (indented_between _ _ _ _ _ _ _ e.utf8 c.requires.boundary e.boundary.1.0 c.args.remaining_space c.in_ok-next.blank e.block) e.boundary;
     }

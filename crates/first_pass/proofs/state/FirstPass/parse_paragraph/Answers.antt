@@ -4,6 +4,7 @@ use Rattle.first_pass_containers.proofs.OrderSteps.{text_ordered}
 use Rattle.first_pass.specs.Closable.{IsClosable}
 use Rattle.first_pass.proofs.CallsNamed.{text_added}
 use Rattle.first_pass.proofs.Closable.{closable_added}
+use Rattle.first_pass.proofs.TablesWhole.{text_block_whole}
 use Rattle.first_pass.proofs.state.FirstPass.parse_paragraph.Goals as goal
 
 pub returns : goal.returns
@@ -25,6 +26,7 @@ returns c =
       named = λ free h.
           block_added (names_of c.parse_text.new.self.allocs) (names_of self.pass.allocs) old.tree tree e.block.items e.more.names e.block.tree_is
           (text_added e.block c.requires.boundary free) h;
+      whole = text_block_whole (names_of self.pass.allocs) e.more.names e.block c.requires.boundary;
       state = is;
       fits = e.fits;
       order = λ inside at stands o. subst (λ (r : PassState). IsOrderedAt text r next) (sym is)

@@ -3,12 +3,19 @@ use Rattle.first_pass_blocks.proofs.Common.{is_list, top_body, PassState}
 use Rattle.first_pass_order.proofs.NamedLemmas.{popped_named}
 use Rattle.first_pass_order.proofs.Nests.{popped_outside}
 use Rattle.first_pass_order.proofs.PopOrder.{pop_keeps_order}
+use Rattle.first_pass_order.proofs.WholeKept.{popped_whole}
 use Rattle.first_pass.proofs.state.FirstPass.pop.Goals as goal
 
 pub returns : goal.returns
 returns c = record {
   closes = record {
-    kept = record { source = refl; tables = refl; named = λ h. rw c.pop.ensures (popped_named _ _ _ h); braces = refl };
+    kept = record {
+      source = refl;
+      tables = refl;
+      named = λ h. rw c.pop.ensures (popped_named _ _ _ h);
+      whole = λ named h. rw c.pop.ensures (popped_whole _ c.args.ix c.args.self.now.pass.state c.recall_forest.ensures h);
+      braces = refl;
+    };
     state = c.pop.ensures;
     order = λ at later within ends h. pop_keeps_order _ _ _ at _ c.pop.ensures later within ends h;
   };
