@@ -54,7 +54,7 @@ pub record StartsPass (text : List ℕ) (options : Options) (pass : FirstPass) :
   pub options_are : source_options pass ≡ options
   pub empty : tables_of (allocs_of pass) ≡ no_tables
   pub ready : (names : Names) → Ready (document text options names) no_tables (state_of pass) (lines_from text 0)
-  pub order : IsClosable text (state_of pass) 0
+  pub closable : IsClosable text (state_of pass) 0
   pub root : length (tree_of pass).nodes ≡ 1
   pub named : AreNamed (names_of (allocs_of pass)) (tree_of pass).nodes
   pub labels : HasFirstLabels (allocs_of pass) (tree_of pass).nodes
@@ -310,7 +310,7 @@ pub record OpensFootnote (old new : FirstPass) (start : ℕ) (size : Option ℕ)
   pub head : ReadsFootnote (pass_of old) (pass_of new) start size
   pub none : size ≡ None → StaysSame (pass_of old) (pass_of new)
   pub within : IfSome size (λ n. (3 < n) × IsCharBoundary (source_text old) (start + n))
-  pub order : IfSome size (λ n. (at : ℕ) → at ≤ start → IsReadTo (source_text old) (state_of old) at → IsClosable (source_text old) (state_of new) start)
+  pub closable : IfSome size (λ n. (at : ℕ) → at ≤ start → IsReadTo (source_text old) (state_of old) at → IsClosable (source_text old) (state_of new) start)
 
 -- The head of a footnote definition is sought at an offset, and opened if one begins there. The text and the options
 -- are the same, also after an error (this project).

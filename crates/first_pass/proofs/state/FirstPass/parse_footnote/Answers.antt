@@ -48,10 +48,10 @@ whole_by old new start (Some n) forest reads named h =
     rw opened.opened (note_whole (names_of (allocs_of new)) start opened.index (state_of old) forest
     (more_whole (names_of (allocs_of new)) (names_of (allocs_of old)) (tree_of old) more named h))
 
-order_by : (old new : BlockPass) (start : ℕ) (size : Option ℕ) → IsCharBoundary (source_text old) start → ReadsFootnote old new start size
+closable_by : (old new : BlockPass) (start : ℕ) (size : Option ℕ) → IsCharBoundary (source_text old) start → ReadsFootnote old new start size
     → IfSome size (λ n. (at : ℕ) → at ≤ start → IsReadTo (source_text old) (state_of old) at → IsClosable (source_text old) (state_of new) start)
-order_by old new start None boundary reads = tt
-order_by old new start (Some n) boundary reads = λ at low o.
+closable_by old new start None boundary reads = tt
+closable_by old new start (Some n) boundary reads = λ at low o.
     let opened = (found_by _ (Some n) n (NoneRead old new (Some n)) (IsRead old new start) reads (λ none. none.0) refl).2.1 in
     record {
       read = footnote_keeps_order (source_text old) (state_of old) (state_of new) at start opened.index opened.opened low boundary.0 boundary
@@ -73,6 +73,6 @@ returns c =
         head = e.head;
         none = none_read old new c.args.start c.in_ok-size.size e.head;
         within = e.within;
-        order = order_by old new c.args.start c.in_ok-size.size c.requires e.head;
+        closable = closable_by old new c.args.start c.in_ok-size.size c.requires e.head;
       };
     }
