@@ -9,5 +9,6 @@ pub mod LineLengths
 pub mod MarkedText
 pub mod OrderJoin
 pub mod RowsOrdered
+pub mod TableClosed
 pub mod TablesWhole
 pub mod TextTokens

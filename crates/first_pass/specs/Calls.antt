@@ -1,8 +1,11 @@
 -- What the calls of a pass do: one record for each kind of call.
-use Rattle.std.specs.Prelude.{◌≡◌, ℕ, ◌+◌, ◌-◌, ◌≤◌, ◌<◌, Bool, true, false, List, length, drop, Option, Some, None, IfSome, IsCharBoundary, Result, IfOk}
+use Rattle.std.specs.Prelude.{◌≡◌, ℕ, ◌+◌, ◌-◌, ◌≤◌, ◌<◌, Bool, true, false, List, [], ◌∷◌, length, drop, Option, Some, None, IfSome, IsCharBoundary}
+use Rattle.std.specs.Prelude.{Result, IfOk}
 use Rattle.std.specs.declared.alloc.AllocError.{AllocError}
+use Rattle.first_pass_items.specs.declared.item.AlignmentIndex.{AlignmentIndex}
 use Rattle.first_pass_items.specs.declared.item.HeadingLevel.{HeadingLevel}
 use Rattle.first_pass_items.specs.declared.item.Item.{Item}
+use Rattle.first_pass_items.specs.declared.item.ItemBody.TheVariants.{Table}
 use Rattle.first_pass_items.specs.declared.option_set.Options.{Options}
 use Rattle.first_pass_tree.specs.Forest.{added, appended}
 use Rattle.first_pass_tree.specs.declared.tree_index.TreeIndex.{TreeIndex}
@@ -16,15 +19,16 @@ use Rattle.first_pass_grammar.specs.Derivation.{no_tables}
 use Rattle.first_pass_grammar.specs.CodeBlocks.{IsFencedCode, IsMetadata}
 use Rattle.first_pass_grammar.specs.HtmlBlocks.{IsHtml}
 use Rattle.first_pass_grammar.specs.Leaves.{document, rule_block}
-use Rattle.first_pass_grammar.specs.Names.{Names, AreNamed, index_of}
+use Rattle.first_pass_grammar.specs.Names.{Names, AreNamed, alignments_named, index_of}
 use Rattle.first_pass_grammar.specs.Order.{GrowsBy, is_task_marker}
 use Rattle.first_pass_grammar.specs.OpenOrder.{IsOrderedTo}
-use Rattle.first_pass_grammar.specs.WholeTables.{HasWholeTables}
+use Rattle.first_pass_grammar.specs.Tables.{most_inserted}
+use Rattle.first_pass_grammar.specs.WholeTables.{HasWholeTables, inserted_in}
 use Rattle.first_pass_names.specs.TableEntries.{names_of, tables_of, NamesMore, AddsTexts}
 use Rattle.first_pass_tokens.specs.Braces.{no_braces}
 use Rattle.first_pass_tokens.specs.LineTokens.{is_break}
 use Rattle.first_pass_open.specs.Between.{line_end_at, AddsBetween, MarkerIsInItem, MarkerBetween}
-use Rattle.first_pass_lists.specs.Closing.{state_with, with_block, empty_item_closed, is_item, is_list, top_body}
+use Rattle.first_pass_lists.specs.Closing.{begun, state_with, with_block, empty_item_closed, is_item, is_list, top_body}
 use Rattle.first_pass_lists.specs.declared.state.PassState.{PassState}
 use Rattle.first_pass_raw.specs.RawBlocks.{IsPlaceAt, range_of, AppendsRaw, AddsIndented, AddsRaw, fenced_after, metadata_after, html_to_end, html_to_blank}
 use Rattle.first_pass_raw.specs.declared.fenced_code.Fence.{Fence}
@@ -256,7 +260,8 @@ pub record ReadsContent (mode : TableParseMode) (old new : FirstPass) (start : �
 
 -- The rows of a table with this many columns are added to it, and the table is closed where reading continues. They
 -- are whole, in order, and at most four nodes for each byte, if the line of the header row ends at or before
--- `body_start` (GFM 4.10, and this project).
+-- `body_start`. Whole tables stay whole, from before the table was opened, if its index names the alignments of its
+-- columns, and the header row needs no more inserted cells than a table may have (GFM 4.10, and this project).
 pub record ClosesTable (old new : FirstPass) (columns head_start body_start next : ℕ) : Type 0 where
   pub kept : KeepsNames old new
   pub texts : AddsTexts (names_of (allocs_of new)) (names_of (allocs_of old))
@@ -270,6 +275,10 @@ pub record ClosesTable (old new : FirstPass) (columns head_start body_start next
   pub node_bound : (from : ℕ) → from ≤ head_start → line_end_at (source_text old) head_start ≤ body_start → from < next
       → GrowsBy from next (tree_of old).nodes (tree_of new).nodes
   pub tables : AddsWholeRows (document (source_text old) (source_options old) (names_of (allocs_of new))) columns head_start (tree_of old) (tree_of new) next
+  pub whole : (r : PassState) (start : ℕ) (index : AlignmentIndex) → tree_of old ≡ (begun start (Table index) r).tree
+      → length (alignments_named (names_of (allocs_of old)) index) ≡ columns → inserted_in (tables.head ∷ []) ≤ most_inserted
+      → AreNamed (names_of (allocs_of old)) r.tree.nodes → HasWholeTables (names_of (allocs_of old)) r.tree
+      → HasWholeTables (names_of (allocs_of new)) (tree_of new)
 
 -- A row of a table that begins at an offset is read, or there is none. If the offset is a character boundary, the row is
 -- in order, ends at one, and has at most four nodes for each byte. Its texts are appended to the named texts. The table
