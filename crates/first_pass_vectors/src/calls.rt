@@ -7,7 +7,7 @@ use bitflags::Flags;
 use first_pass::below::{Item, ItemBody, TreeIndex};
 use first_pass::flank::TableParseMode;
 use first_pass::pass::{
-    FirstPass, HtmlEnd, count_header_cols, run_first_pass, surgerize_tight_list,
+    FirstPass, HtmlEnd, PassState, count_header_cols, run_first_pass, surgerize_tight_list,
 };
 use first_pass_items::option_set::Options;
 use first_pass_lines::lines::{scan_atx_heading, scan_blank_line};
@@ -214,40 +214,82 @@ fn calls_without_a_pass(rt: HostRuntime) -> Result<(), Fail> {
     Ok(())
 }
 
-// Where reading a line ends in a mode, and whether it returns a line break or a table. The line is read up to `end` at
-// most. The text comes with the options of the pass.
+// Where reading a line ends in a mode, and the range of the line break or table that it returns. The line is read up to
+// `end` at most. The text comes with the options of the pass.
 fn line_read(
     alloc: Global,
     (text, options): (&str, Options),
     start: usize,
     end: Option<usize>,
     mode: TableParseMode,
-) -> Result<(usize, bool), AllocError> {
+) -> Result<(usize, Option<(usize, usize)>), AllocError> {
     let mut pass = FirstPass::new(alloc, text, options)?;
     let most = end.unwrap_or(text.len());
     if most < start || text.len() < most {
-        return Ok((0, false));
+        return Ok((0, None));
     }
     let (next, item) = pass.parse_line(start, end, mode)?;
-    Ok((next, item.is_some()))
+    Ok((next, item.map(|item| (item.start, item.end))))
 }
 
 #[test]
 fn a_line_in_each_mode(rt: HostRuntime) -> Result<(), Fail> {
     let plain = (TEXT, Options::empty());
     let table = ("a|b\n-|-\n", Options::ENABLE_TABLES);
+    let indented = ("  a|b\n  -|-\nc", Options::ENABLE_TABLES);
     for (source, start, end, mode, want) in [
-        (plain, 4, Some(8), TableParseMode::Disabled, (7, true)),
-        (plain, 4, Some(5), TableParseMode::Disabled, (5, false)),
-        (table, 0, None, TableParseMode::Disabled, (4, true)),
-        (table, 0, None, TableParseMode::Active, (1, false)),
-        (table, 0, None, TableParseMode::Scan, (8, true)),
+        (
+            plain,
+            4,
+            Some(8),
+            TableParseMode::Disabled,
+            (7, Some((5, 7))),
+        ),
+        (plain, 4, Some(5), TableParseMode::Disabled, (5, None)),
+        (table, 0, None, TableParseMode::Disabled, (4, Some((3, 4)))),
+        (table, 0, None, TableParseMode::Active, (1, None)),
+        (table, 0, None, TableParseMode::Scan, (8, Some((3, 8)))),
+        (indented, 2, None, TableParseMode::Scan, (12, Some((5, 12)))),
     ] {
         assert!(rt;
             line_read(rt.alloc(), source, start, end, mode)? == want,
             "{0} {end:?}",
             source.0
         );
+    }
+    Ok(())
+}
+
+// Opens a block of this kind at the start of a text, before anything is read.
+fn open(state: &mut PassState, body: ItemBody) -> Result<(), AllocError> {
+    let item = Item {
+        start: 0,
+        end: 0,
+        body,
+    };
+    state.tree.append(item)?;
+    state.tree.push()?;
+    Ok(())
+}
+
+// Whether a `:` interrupts the text in an open block of this kind, in a line that continues that block.
+fn colon_interrupts(alloc: Global, body: ItemBody) -> Result<bool, AllocError> {
+    let mut pass = FirstPass::new(alloc, "a\n: b", Options::ENABLE_DEFINITION_LIST)?;
+    let reader = &mut pass.pass;
+    open(&mut reader.state, body)?;
+    pass.scan_paragraph_interrupt(": b", true, 1)
+}
+
+#[test]
+fn colons_after_text(rt: HostRuntime) -> Result<(), Fail> {
+    for (body, interrupts) in [
+        (ItemBody::Paragraph, true),
+        (ItemBody::TightParagraph, true),
+        (ItemBody::MaybeDefinitionListTitle, true),
+        (ItemBody::DefinitionListTitle, false),
+        (ItemBody::BlockQuote(None), false),
+    ] {
+        assert_eq!(rt; colon_interrupts(rt.alloc(), body)?, interrupts);
     }
     Ok(())
 }
