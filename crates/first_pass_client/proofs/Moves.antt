@@ -1,11 +1,15 @@
 -- What a method says of the text before it holds of the text after it, which is the same.
-use Rattle.std.proofs.Common.{◌≡◌, ◌≤◌, ℕ, List, IsCharBoundary, sym, ap, subst, arith}
+use Rattle.std.proofs.Common.{◌≡◌, ◌≤◌, ℕ, List, Option, Some, IfSome, IsCharBoundary, sym, ap, subst, arith}
 use Rattle.first_pass_open.specs.declared.source.Source.{Source}
 use Rattle.first_pass_order.specs.Ordered.{IsReadFrom}
 use Rattle.first_pass.specs.declared.state.FirstPass.{FirstPass}
 use Rattle.first_pass.specs.Closable.{IsClosable}
 use Rattle.first_pass.specs.Views.{source_of, source_options, source_text, state_of}
 use Rattle.first_pass_client.specs.Places.{MayAdd, MayRead}
+
+-- what holds of a value that is given
+pub given : {X : Type 0} → (o : Option X) (x : X) (P : X → Type 0) → o ≡ Some x → IfSome o P → P x
+given o x P is h = subst (λ o. IfSome o P) is h
 
 pub same_text : (old new : FirstPass) → source_of new ≡ source_of old → source_text old ≡ source_text new
 same_text old new same = sym (ap (λ (s : Source). s.text.now) same)

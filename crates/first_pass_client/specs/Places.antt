@@ -28,10 +28,12 @@ pub record MayAdd (pass : FirstPass) (at : ℕ) : Type 0 where
   pub order : IsClosable (source_text pass) (state_of pass) from
   pub boundary : IsCharBoundary (source_text pass) at
 
--- A place in a block with text that is open and contains a chain up to there.
+-- A place in a block with text that is open and contains a chain up to there or up to an offset before it.
 pub record InText (pass : FirstPass) (block : TreeIndex) (at : ℕ) : Type 0 where
   pub place : MayAdd pass at
-  pub chain : HoldsChain (source_text pass) (tree_of pass) block at
+  pub to : ℕ
+  pub near : to ≤ at
+  pub chain : HoldsChain (source_text pass) (tree_of pass) block to
 
 -- A place in a table that is open, after its rows so far.
 pub record InTable (pass : FirstPass) (at : ℕ) : Type 0 where

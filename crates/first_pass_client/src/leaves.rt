@@ -1,8 +1,8 @@
 //! Leaf blocks are added, each by its own method.
 
-ghost use Rattle.first_pass.specs.Views.{source_text, state_of};
+ghost use Rattle.first_pass.specs.Views.{source_text};
 ghost use Rattle.first_pass_client.specs.Places.{MayAdd, MayRead};
-ghost use Rattle.std.specs.Prelude.{◌≡◌, ◌+◌, ◌≤◌, false, IfOk, IfSome, IsCharBoundary, OnOk};
+ghost use Rattle.std.specs.Prelude.{◌+◌, ◌≤◌, IfOk, IsCharBoundary, MatchOption, OnOk};
 
 use first_pass::below::{scan_atx_heading, scan_blank_line, scan_code_fence};
 use first_pass::pass::{FirstPass, HtmlEnd};
@@ -22,13 +22,30 @@ pub fn read_rule(pass: &mut FirstPass<'_>, at: usize, size: usize) -> Result<usi
 /// Reads an ATX heading. Returns `None` if none begins at the offset.
 pub fn read_heading(pass: &mut FirstPass<'_>, at: usize) -> Result<Option<usize>, AllocError>
     requires { MayAdd pass.old at }
-    ensures { IfOk result (λ next. IfSome next (λ n. MayAdd pass.new n)) }
+    ensures { IfOk result (λ next. MatchOption next (MayAdd pass.new at) (λ n. MayAdd pass.new n)) }
 {
     let Some(level) = scan_atx_heading(rest_of(pass.pass.source.text.as_bytes(), at)) else {
         return Ok(None);
     };
     let next = pass.parse_atx_heading(at, level)?;
     Ok(Some(next))
+}
+
+/// Reads an ATX heading, and then its attributes. Returns the offset after it, and whether it has attributes. Returns
+/// `None` if none begins at the offset.
+pub fn read_heading_attributes(
+    pass: &mut FirstPass<'_>,
+    at: usize,
+) -> Result<Option<(usize, bool)>, AllocError>
+    requires { MayAdd pass.old at }
+    ensures { IfOk result (λ answer. MatchOption answer (MayAdd pass.new at) (λ found. MayAdd pass.new found.0)) }
+{
+    let Some(level) = scan_atx_heading(rest_of(pass.pass.source.text.as_bytes(), at)) else {
+        return Ok(None);
+    };
+    let next = pass.parse_atx_heading(at, level)?;
+    let (_end, attributes) = pass.extract_and_parse_heading_attribute_block(at, next)?;
+    Ok(Some((next, attributes.is_some())))
 }
 
 /// Reads a paragraph, setext heading or table.
@@ -43,7 +60,7 @@ pub fn read_paragraph(pass: &mut FirstPass<'_>, at: usize) -> Result<usize, Allo
 /// Reads fenced code. Returns `None` if no fence begins at the offset.
 pub fn read_fenced_code(pass: &mut FirstPass<'_>, at: usize) -> Result<Option<usize>, AllocError>
     requires { MayAdd pass.old at }
-    ensures { IfOk result (λ next. IfSome next (λ n. MayAdd pass.new n)) }
+    ensures { IfOk result (λ next. MatchOption next (MayAdd pass.new at) (λ n. MayAdd pass.new n)) }
 {
     let Some((count, byte)) = scan_code_fence(rest_of(pass.pass.source.text.as_bytes(), at)) else {
         return Ok(None);
@@ -55,7 +72,7 @@ pub fn read_fenced_code(pass: &mut FirstPass<'_>, at: usize) -> Result<Option<us
 /// Reads indented code whose content begins at an offset. Returns `None` if the line is blank.
 pub fn read_indented_code(pass: &mut FirstPass<'_>, at: usize) -> Result<Option<usize>, AllocError>
     requires { MayAdd pass.old at }
-    ensures { IfOk result (λ next. IfSome next (λ n. MayAdd pass.new n)) }
+    ensures { IfOk result (λ next. MatchOption next (MayAdd pass.new at) (λ n. MayAdd pass.new n)) }
 {
     if scan_blank_line(rest_of(pass.pass.source.text.as_bytes(), at)).is_some() {
         return Ok(None);
@@ -84,8 +101,7 @@ pub fn read_html(pass: &mut FirstPass<'_>, at: usize, end: HtmlEnd) -> Result<us
 
 /// Reads an HTML block that ends before a blank line.
 pub fn read_division(pass: &mut FirstPass<'_>, at: usize) -> Result<usize, AllocError>
-    requires place { MayAdd pass.old at }
-    requires blank { (state_of pass.old).blank ≡ false }
+    requires { MayAdd pass.old at }
     ensures { IfOk result (λ next. MayRead pass.new next) }
 {
     let next = pass.parse_html_block_type_6_or_7(at, 0, 0)?;

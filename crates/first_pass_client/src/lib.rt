@@ -1,8 +1,9 @@
-//! A client of the pass, which calls its methods one after the other. Its contracts say that the nodes stay in order
-//! and that the open ones can be closed. They follow from the contracts of the methods alone: this crate has no lemma
-//! on nodes, lists or tokens.
+//! A client of the pass, which calls each of its methods, in each mode. Its contracts say that the nodes stay in order
+//! and that the open ones can be closed, so that other methods can be called next. They follow from the contracts and
+//! the laws of `first_pass` alone: this crate has no lemma on nodes, lists or tokens.
 #![tactic(auto)]
 
+pub mod definitions;
 pub mod leaves;
 pub mod lists;
 pub mod tables;

@@ -4,11 +4,11 @@ ghost use Rattle.first_pass.specs.Views.{state_of, tree_of};
 ghost use Rattle.first_pass_client.specs.Places.{MayAdd, MayClose, MayRead};
 ghost use Rattle.first_pass_grammar.specs.Order.{is_task_marker};
 ghost use Rattle.first_pass_lists.specs.Closing.{begun, is_item, top_body, with_block};
-ghost use Rattle.std.specs.Prelude.{◌≡◌, false, length, slice_get, true, IfOk, IfSome, IsSome, OnOk};
+ghost use Rattle.std.specs.Prelude.{◌≡◌, false, length, slice_get, true, IfOk, IsSome, MatchOption, OnOk};
 
 use first_pass::below::{Item, ItemBody, Options, TreeIndex};
-use first_pass::ended_block_is_closable;
 use first_pass::pass::{FirstPass, PassState};
+use first_pass::{block_begins, ended_block_is_closable, reading_continues_later};
 use std::alloc::{AllocError, Global};
 
 /// Begins to read a text.
@@ -17,7 +17,8 @@ pub fn begin<'a>(
     text: &'a str,
     options: Options,
 ) -> Result<FirstPass<'a>, AllocError>
-    ensures { IfOk result (λ pass. MayAdd pass 0) }
+    ensures add { IfOk result (λ pass. MayAdd pass 0) }
+    ensures read { IfOk result (λ pass. MayRead pass 0) }
 {
     let pass = FirstPass::new(alloc, text, options)?;
     Ok(pass)
@@ -26,7 +27,7 @@ pub fn begin<'a>(
 /// Reads the block in the line at an offset. Returns the start of the next unread line; `None` at the end of the text.
 pub fn read_block(pass: &mut FirstPass<'_>, at: usize) -> Result<Option<usize>, AllocError>
     requires { MayRead pass.old at }
-    ensures { IfOk result (λ next. IfSome next (λ n. MayRead pass.new n)) }
+    ensures { IfOk result (λ next. MatchOption next (MayRead pass.new at) (λ n. MayRead pass.new n)) }
 {
     if at >= pass.pass.source.text.len() {
         return Ok(None);
@@ -35,8 +36,20 @@ pub fn read_block(pass: &mut FirstPass<'_>, at: usize) -> Result<Option<usize>, 
     Ok(Some(next))
 }
 
+/// The same where nodes may be closed or blocks may be added: after any other call.
+pub fn read_next_block(pass: &mut FirstPass<'_>, at: usize) -> Result<Option<usize>, AllocError>
+    requires { MayClose pass.old at }
+    ensures { IfOk result (λ next. MatchOption next (MayClose pass.new at) (λ n. MayRead pass.new n)) }
+{
+    reading_continues_later();
+    if at >= pass.pass.source.text.len() {
+        return Ok(None);
+    }
+    let next = pass.parse_block(at)?;
+    Ok(Some(next))
+}
+
 /// Returns whether open nodes may be closed at an offset: whether the last block ends there or before.
-#[tactic(auto, using(first_pass_open::proofs::BlockLemmas::open_node_in))]
 pub fn is_ended(pass: &FirstPass<'_>, at: usize) -> bool
     requires { MayRead pass.now at }
     ensures { result ≡ true → MayClose pass.now at }
@@ -96,10 +109,22 @@ pub fn open_list(pass: &mut FirstPass<'_>, at: usize, ch: u8, index: u64) -> Res
     Ok(())
 }
 
-/// Opens the footnote definition that begins at an offset. Returns the offset after its head, or `None`.
+/// Opens an item that begins at an offset, in the list that was just opened or continued.
+pub fn open_item(pass: &mut FirstPass<'_>, at: usize, columns: usize) -> Result<(), AllocError>
+    requires { MayClose pass.old at }
+    ensures { OnOk result (MayAdd pass.new at) }
+{
+    block_begins();
+    let reader = &mut pass.pass;
+    open_block(&mut reader.state, at, ItemBody::ListItem(columns))?;
+    Ok(())
+}
+
+/// Opens the footnote definition that begins at an offset. Returns the offset after its head. Returns `None` if none
+/// begins there.
 pub fn open_footnote(pass: &mut FirstPass<'_>, at: usize) -> Result<Option<usize>, AllocError>
     requires { MayClose pass.old at }
-    ensures { IfOk result (λ next. IfSome next (λ n. MayAdd pass.new n)) }
+    ensures { IfOk result (λ next. MatchOption next (MayClose pass.new at) (λ n. MayAdd pass.new n)) }
 {
     pass.pass.source.recall_length();
     let Some(size) = pass.parse_footnote(at)? else {

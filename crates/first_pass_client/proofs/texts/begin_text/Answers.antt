@@ -23,6 +23,8 @@ returns c =
         order = subst (λ (r : PassState). IsClosable text r at) (sym state_is) (law.closable text old h.from at Paragraph h.order h.low h.boundary refl);
         boundary = h.boundary;
       };
+      to = at;
+      near = omega arith;
       chain = subst (λ (r : PassState). HoldsChain text r.tree c.in_ok-block.block at) (sym state_is)
           (subst (λ (b : TreeIndex). HoldsChain text (begun at Paragraph (with_block old old.tree)).tree b at) (sym block_is)
           (law.chain text at Paragraph (with_block old old.tree) refl h.boundary));

@@ -1,17 +1,12 @@
-use Rattle.std.proofs.Common.{◌≡◌, ℕ, List, Option, Some, IfSome, true, IsCharBoundary, refl, sym, subst, ◌∙◌, arith}
-use Rattle.first_pass_items.specs.declared.item.Item.{Item}
+use Rattle.std.proofs.Common.{◌≡◌, ℕ, List, true, IsCharBoundary, sym, subst, ◌∙◌, arith}
 use Rattle.first_pass_lists.specs.declared.state.PassState.{PassState}
 use Rattle.first_pass_tokens.specs.LineTokens.{is_break}
 use Rattle.first_pass_tree.specs.Forest.{appended}
 use Rattle.first_pass.specs.Closable.{IsClosable}
 use Rattle.first_pass.specs.Holds.{HoldsChain}
 use Rattle.first_pass.specs.Views.{source_text, state_of, tree_of, with_tree}
-use Rattle.first_pass_client.proofs.Moves.{may_add_here, same_text}
+use Rattle.first_pass_client.proofs.Moves.{given, may_add_here, same_text}
 use Rattle.first_pass_client.proofs.texts.read_line.Goals as goal
-
--- what holds of an item that is given
-given : (o : Option Item) (x : Item) (P : Item → Type 0) → o ≡ Some x → IfSome o P → P x
-given o x P is h = subst (λ (p : Option Item). IfSome p P) is h
 
 pub returns-in_default : goal.returns-in_default
 returns-in_default c =
@@ -21,9 +16,11 @@ returns-in_default c =
     let e = c.in_ok-next.ensures in
     let same = e.tokens.kept.source in
     record {
-      place = may_add_here old new c.in_ok-next.next same (e.tokens.closable tt h.boundary h.from h.low h.order) (e.tokens.boundary refl h.boundary);
+      place = may_add_here old new c.in_ok-next.next same (e.tokens.closable tt h.boundary h.from h.low h.order) (e.tokens.boundary tt h.boundary);
+      to = c.in_ok-next.next;
+      near = omega arith;
       chain = subst (λ (t : List ℕ). HoldsChain t (tree_of new) c.args.block c.in_ok-next.next) (same_text old new same)
-          (e.block.chain tt h.boundary c.args.block c.requires.chain).chain;
+          (e.block.chain tt h.boundary c.args.block c.requires.to c.requires.near c.requires.chain).chain;
     }
 
 pub returns : goal.returns
@@ -45,9 +42,11 @@ returns c =
         order = subst (λ (t : List ℕ). IsClosable t state next) texts
             (subst (λ (r : PassState). IsClosable (source_text old) r next) (sym is)
             (given c.in_ok-next.line_break x _ c.in-Some.is (e.block.broken tt h.boundary h.from h.low h.order) kind));
-        boundary = subst (λ (t : List ℕ). IsCharBoundary t next) texts (e.tokens.boundary refl h.boundary);
+        boundary = subst (λ (t : List ℕ). IsCharBoundary t next) texts (e.tokens.boundary tt h.boundary);
       };
+      to = next;
+      near = omega arith;
       chain = subst (λ (t : List ℕ). HoldsChain t state.tree c.args.block next) texts
           (subst (λ (r : PassState). HoldsChain (source_text old) r.tree c.args.block next) (sym is)
-          (given c.in_ok-next.line_break x _ c.in-Some.is (e.block.chain tt h.boundary c.args.block c.requires.chain).broken kind));
+          (given c.in_ok-next.line_break x _ c.in-Some.is (e.block.chain tt h.boundary c.args.block c.requires.to c.requires.near c.requires.chain).broken kind));
     }
