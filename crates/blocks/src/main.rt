@@ -3,9 +3,9 @@
 #![tactic(auto)]
 
 use first_pass_blocks::parser::BlockParser;
+use first_pass_host::program::run_program;
+use first_pass_host::tree_report::TreeReport;
 use first_pass_printed::run::PrintedBlocks;
-use first_pass_run::program::run_program;
-use first_pass_run::tree_report::TreeReport;
 use std::process::ExitCode;
 
 fn main(rt: HostRuntime) -> ExitCode {

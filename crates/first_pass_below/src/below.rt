@@ -18,11 +18,11 @@ pub use first_pass_lines::places::{law_of_lines, next_line, rest_of};
 pub use first_pass_links::destination::scan_link_dest;
 pub use first_pass_links::escape::unescape;
 pub use first_pass_links::label::scan_link_label_rest;
-pub use first_pass_metadata::metadata_scan::{scan_closing_metadata_block, scan_metadata_block};
 pub use first_pass_scan::leaf_scan::{
     calc_indent, scan_closing_code_fence, scan_code_fence, scan_hrule, scan_setext_heading,
 };
 pub use first_pass_scan::line_start::{LineStart, scan_listitem};
-pub use first_pass_table_scan::table_scan::{count_header_cols, scan_table_head};
+pub use first_pass_scan::metadata_scan::{scan_closing_metadata_block, scan_metadata_block};
+pub use first_pass_scan::table_scan::{count_header_cols, scan_table_head};
 pub use first_pass_tree::forest::Tree;
 pub use first_pass_tree::tree_index::TreeIndex;

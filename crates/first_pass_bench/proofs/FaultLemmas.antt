@@ -3,8 +3,8 @@ use Rattle.std.proofs.Common.{ℕ, List, String, Result, Ok, Err, IfErr, inr}
 use Rattle.first_pass_host.specs.declared.fault.RunFault.{RunFault}
 use Rattle.first_pass_host.specs.declared.fault.RunFault.TheVariants.{OutOfMemory, NotUtf8, BadOptions, ReadFailed, WriteFailed}
 use Rattle.first_pass_host.specs.Streams.{Stream, ReadsWhole}
-use Rattle.first_pass_timing.specs.declared.task.Task.{Task}
-use Rattle.first_pass_timing.specs.Task.{AskFor}
+use Rattle.first_pass_host.specs.declared.task.Task.{Task}
+use Rattle.first_pass_host.specs.Task.{AskFor}
 use Rattle.first_pass_bench.specs.Bench.{FaultLeaves, LeavesText}
 
 -- the state after a fault if the text was read to its end

@@ -9,10 +9,10 @@ use Rattle.first_pass_grammar.specs.Derivation.{Derives, Tables}
 use Rattle.first_pass_host.specs.declared.fault.RunFault.{RunFault}
 use Rattle.first_pass_host.specs.declared.fault.RunFault.TheVariants.{OutOfMemory, NotUtf8, BadOptions, ReadFailed, WriteFailed}
 use Rattle.first_pass_host.specs.Streams.{Stream, IsUntouched, AppendsFront, ReadsWhole}
-use Rattle.first_pass_timing.specs.declared.task.Task.{Task}
-use Rattle.first_pass_timing.specs.Task.{AskFor}
-use Rattle.first_pass_timing.specs.Timing.{IsTimed}
-use Rattle.first_pass_timing.specs.Report.{report_line}
+use Rattle.first_pass_host.specs.declared.task.Task.{Task}
+use Rattle.first_pass_host.specs.Task.{AskFor}
+use Rattle.first_pass_host.specs.Timing.{IsTimed}
+use Rattle.first_pass_host.specs.TimingLine.{report_line}
 
 -- the number of nodes of the tree that the block grammar derives from a text under options
 pub record CountsNodes (options : Options) (text : List ℕ) (count : ℕ) : Type 0 where

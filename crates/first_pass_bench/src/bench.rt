@@ -6,12 +6,12 @@ ghost use Rattle.std.specs.Io.KnownBytes.{Appends};
 ghost use Rattle.std.specs.Prelude.{ℕ, List, OnOk, IfErr};
 
 use crate::timed::time_runs;
+use first_pass_host::clock::TimeSource;
 use first_pass_host::fault::RunFault;
 use first_pass_host::input::read_whole;
 use first_pass_host::output::write_whole;
-use first_pass_timing::clock::TimeSource;
-use first_pass_timing::report::append_report;
-use first_pass_timing::task::{Task, parse_task};
+use first_pass_host::task::{Task, parse_task};
+use first_pass_host::timing_line::append_report;
 use std::alloc::Global;
 use std::io::{Read, Write};
 use std::str;

@@ -2,15 +2,15 @@
 
 ghost use Rattle.first_pass_bench.specs.Bench.{CountsNodes};
 ghost use Rattle.first_pass_host.specs.Streams.{IsReadFault};
-ghost use Rattle.first_pass_timing.specs.Timing.{IsTimed};
+ghost use Rattle.first_pass_host.specs.Timing.{IsTimed};
 ghost use Rattle.std.specs.Io.KnownBytes.{Consumes};
 ghost use Rattle.std.specs.Prelude.{◌∷◌, [], IfOk, IfErr};
 
 use first_pass_blocks::pass::run_first_pass;
+use first_pass_host::clock::TimeSource;
 use first_pass_host::fault::RunFault;
+use first_pass_host::timing::{Run, Timing, is_enough, read_clock};
 use first_pass_items::option_set::Options;
-use first_pass_timing::clock::TimeSource;
-use first_pass_timing::timing::{Run, Timing, is_enough, read_clock};
 use std::alloc::Global;
 
 /// Runs the pass on a text the number of times in `asked`, and at least once. Without a number, runs it at least five

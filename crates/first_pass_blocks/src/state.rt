@@ -1,13 +1,13 @@
 //! The fields of the block pass.
 
-ghost use Rattle.first_pass_metadata.proofs.KnownFacts.{known_prop};
-ghost use Rattle.first_pass_metadata.specs.MetadataSearch.{IsKnownOf};
+ghost use Rattle.first_pass_scan.proofs.KnownClosings.{known_prop};
+ghost use Rattle.first_pass_scan.specs.MetadataSearch.{IsKnownOf};
 
 use first_pass_kinds::next_front::NextFront;
 use first_pass_lists::state::PassState;
-use first_pass_metadata::metadata_search::MetadataEnds;
 use first_pass_names::items::Allocations;
 use first_pass_open::source::Source;
+use first_pass_scan::metadata_search::MetadataEnds;
 
 /// A pass over the blocks of a text: its source, the state so far, and what the tree's nodes name.
 #[derive(Drop)]

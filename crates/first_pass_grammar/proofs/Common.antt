@@ -67,7 +67,7 @@ unfoldable pub use Rattle.first_pass_scan.specs.LeafLines.{closing_fence_len, co
 unfoldable pub use Rattle.first_pass_scan.specs.Markers.{definition_of, item_of, list_marker, task_of}
 pub use Rattle.first_pass_scan.proofs.MarkerPlaces.{IsMarked, definition-marked, item-marked}
 pub use Rattle.first_pass_scan.proofs.PlainFacts.{inert_indent, plain_begins}
-unfoldable pub use Rattle.first_pass_table_scan.specs.TableHead.{head_columns}
+unfoldable pub use Rattle.first_pass_scan.specs.TableHead.{head_columns}
 pub use Rattle.first_pass_html.specs.Ends.{BlockEnd, condition_of}
 unfoldable pub use Rattle.first_pass_html.specs.Starts.{html_end}
 pub use Rattle.first_pass_html.specs.Tags.{BeginsTagLine}

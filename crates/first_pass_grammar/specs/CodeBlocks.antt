@@ -12,7 +12,7 @@ use Rattle.first_pass_items.specs.declared.item.MetadataBlockKind.TheVariants.{Y
 use Rattle.first_pass_items.specs.declared.item.ItemBody.TheVariants.{IndentCodeBlock, FencedCodeBlock, MetadataBlock}
 use Rattle.first_pass_lines.specs.Lines.{is_white, is_white_or_line_end, line_len}
 use Rattle.first_pass_scan.specs.LeafLines.{closing_fence_len}
-use Rattle.first_pass_metadata.specs.Metadata.{closing_metadata_len}
+use Rattle.first_pass_scan.specs.Metadata.{closing_metadata_len}
 use Rattle.first_pass_lines.specs.Rest.{indent}
 use Rattle.first_pass_lines.specs.Places.{Place, offset, line_end, moved_columns}
 use Rattle.first_pass_links.specs.Escapes.{unescaped}

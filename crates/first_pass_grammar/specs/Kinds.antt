@@ -8,7 +8,7 @@ use Rattle.first_pass_html.specs.Tags.{BeginsTagLine}
 use Rattle.first_pass_items.specs.Bytes.{less_than, greater_than, colon}
 use Rattle.first_pass_lines.specs.Lines.{at_line_end, begins, blank_len, atx_level}
 use Rattle.first_pass_scan.specs.LeafLines.{hrule_len, code_fence, setext_underline}
-use Rattle.first_pass_metadata.specs.Metadata.{metadata_byte}
+use Rattle.first_pass_scan.specs.Metadata.{metadata_byte}
 use Rattle.first_pass_lines.specs.Rest.{Rest, indent, after_columns}
 use Rattle.first_pass_links.specs.Footnotes.{footnote_head}
 use Rattle.first_pass_lines.specs.Places.{Place, offset, moved_columns}

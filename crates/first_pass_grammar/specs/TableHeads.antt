@@ -7,7 +7,7 @@ use Rattle.first_pass_items.specs.OptionWords.{has, tables}
 use Rattle.first_pass_items.specs.declared.item.Alignment.{Alignment}
 use Rattle.first_pass_lines.specs.Lines.{is_content, begins, line_len}
 use Rattle.first_pass_lines.specs.Places.{line_rest}
-use Rattle.first_pass_table_scan.specs.TableHead.{head_columns, delimiter_row_of}
+use Rattle.first_pass_scan.specs.TableHead.{head_columns, delimiter_row_of}
 use Rattle.first_pass_grammar.specs.declared.kind.Container.{Container}
 use Rattle.first_pass_grammar.specs.Containers.{Context, after}
 

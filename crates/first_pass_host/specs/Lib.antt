@@ -1,4 +1,9 @@
 pub mod Faults
 pub mod Held
 pub mod OptionWord
+pub mod Runs
 pub mod Streams
+pub mod Task
+pub mod Timing
+pub mod TimingLine
+pub mod TreeReports

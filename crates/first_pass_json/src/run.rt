@@ -8,8 +8,8 @@ use crate::definition::{append_definition, append_footnote};
 use crate::node::append_node;
 use first_pass_host::fault::RunFault;
 use first_pass_host::output::write_each;
+use first_pass_host::tree_report::{Parsed, TreeLines};
 use first_pass_names::items::Allocations;
-use first_pass_run::tree_report::{Parsed, TreeLines};
 use std::alloc::Global;
 use std::io::Write;
 

@@ -6,9 +6,9 @@ use Rattle.first_pass_grammar.proofs.Common.{is_content, begins, line_len, line_
 use Rattle.first_pass_grammar.proofs.Common.{if_as_many, table_at, headed_table}
 use Rattle.first_pass_lines.specs.Plain.{begins_inert, is_inert}
 use Rattle.first_pass_scan.proofs.PlainFacts.{inert_after}
-use Rattle.first_pass_table_scan.specs.TableHead.{is_pipe, delimiter_row_of}
-use Rattle.first_pass_table_scan.proofs.DelimiterRows.{row_of-refused, row_of-some}
-use Rattle.first_pass_table_scan.proofs.HeaderRows.{head-unpiped}
+use Rattle.first_pass_scan.specs.TableHead.{is_pipe, delimiter_row_of}
+use Rattle.first_pass_scan.proofs.DelimiterRows.{row_of-refused, row_of-some}
+use Rattle.first_pass_scan.proofs.HeaderRows.{head-unpiped}
 use Rattle.first_pass_grammar.specs.declared.kind.Container.{Container}
 use Rattle.first_pass_open.proofs.PlainLemmas.{inert_path}
 

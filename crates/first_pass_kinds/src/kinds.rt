@@ -5,7 +5,7 @@ ghost use Rattle.first_pass_kinds.specs.BlockStart.{kind_of, IsFoundWithConditio
 ghost use Rattle.first_pass_lines.specs.Lines.{atx_level};
 ghost use Rattle.first_pass_lines.specs.Places.{IsPlaceOf};
 ghost use Rattle.first_pass_lines.specs.Rest.{indent};
-ghost use Rattle.first_pass_metadata.specs.MetadataSearch.{IsKnownOf};
+ghost use Rattle.first_pass_scan.specs.MetadataSearch.{IsKnownOf};
 ghost use Rattle.std.specs.Option.{option_map};
 ghost use Rattle.std.specs.Prelude.{◌≡◌, ◌+◌, ◌≤◌, min, length, drop, Some, None, IfSome};
 
@@ -16,11 +16,11 @@ use first_pass_html::tags::scan_html_type_7;
 use first_pass_items::item::HeadingLevel;
 use first_pass_items::option_set::Options;
 use first_pass_lines::lines::{scan_atx_heading, scan_blank_line};
-use first_pass_metadata::metadata_search::{MetadataEnds, metadata_at};
 use first_pass_open::indentation::scan_indentation;
 use first_pass_open::place::Place;
 use first_pass_open::source::Source;
 use first_pass_scan::leaf_scan::{scan_code_fence, scan_hrule};
+use first_pass_scan::metadata_search::{MetadataEnds, metadata_at};
 
 /// The block that begins at a place at which no container begins: its kind, and the values that were read with it.
 #[derive(Clone, Copy)]

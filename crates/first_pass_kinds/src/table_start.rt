@@ -18,8 +18,8 @@ use first_pass_lines::lines::{begins, content_len, is_inert_front, scan_eol, sca
 use first_pass_lines::places::rest_of;
 use first_pass_open::front::front_of;
 use first_pass_open::source::Source;
-use first_pass_table_scan::pipes::has_pipe_in_line;
-use first_pass_table_scan::table_start::{scan_delimiter_row, scan_head_columns};
+use first_pass_scan::pipes::has_pipe_in_line;
+use first_pass_scan::table_start::{scan_delimiter_row, scan_head_columns};
 use first_pass_tree::forest::Tree;
 use std::alloc::AllocError;
 

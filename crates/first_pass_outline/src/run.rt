@@ -1,13 +1,13 @@
 //! The work of the program `outline`.
 
+ghost use Rattle.first_pass_host.specs.Runs.{Runs};
 ghost use Rattle.first_pass_host.specs.Streams.{stream_between};
 ghost use Rattle.first_pass_outline.specs.Lines.{IsListed};
-ghost use Rattle.first_pass_run.specs.Runs.{Runs};
 
 use crate::lines::write_entries;
 use crate::outline::outline_text;
 use first_pass_host::fault::RunFault;
-use first_pass_run::report::{Report, Subject, run_report};
+use first_pass_host::report::{Report, Subject, run_report};
 use std::alloc::Global;
 use std::io::{Read, Write};
 

@@ -2,6 +2,12 @@
 
 mod columns;
 mod labels;
+mod pieces;
+mod places;
+mod ranges;
 mod samples;
+mod steps;
+mod subtrees;
 mod titles;
+mod tree;
 mod walks;

@@ -6,7 +6,7 @@ use crate::links::append_link;
 use crate::node::append_node;
 use first_pass_host::fault::RunFault;
 use first_pass_host::output::write_each;
-use first_pass_run::tree_report::{Parsed, TreeLines};
+use first_pass_host::tree_report::{Parsed, TreeLines};
 use std::io::Write;
 
 /// The lines of the program `blocks`: one for each node of a text's tree of blocks, in reading order, then one for each

@@ -16,7 +16,7 @@ use Rattle.first_pass_grammar.proofs.Common.{in_containers, code_lines, without_
 use Rattle.first_pass_grammar.proofs.Common.{IsMetadata, holds_end, tag_judge, blank_judge, IsHtml, lines_from, counted_nodes, Elsewhere, FitsBetween}
 use Rattle.std.proofs.lemmas.Bool.{or_cases}
 use Rattle.first_pass_lines.specs.Lines.{is_space_or_tab}
-use Rattle.first_pass_metadata.specs.Metadata.{three_of, closing_marks, closing_metadata_len}
+use Rattle.first_pass_scan.specs.Metadata.{three_of, closing_marks, closing_metadata_len}
 use Rattle.first_pass_lines.specs.Places.{line_of}
 use Rattle.first_pass_lines.proofs.LineFacts.{line_len-parts}
 pub use Rattle.first_pass_lines.proofs.LineFacts.{first_line}

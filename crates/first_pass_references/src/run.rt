@@ -8,8 +8,8 @@ use crate::lines::{append_definition, append_footnote, append_reference};
 use crate::reference::reference_at;
 use first_pass_host::fault::RunFault;
 use first_pass_host::output::write_each;
+use first_pass_host::tree_report::{Parsed, TreeLines};
 use first_pass_items::item::Item;
-use first_pass_run::tree_report::{Parsed, TreeLines};
 use std::alloc::AllocError;
 use std::io::Write;
 

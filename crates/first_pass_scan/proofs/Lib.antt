@@ -5,3 +5,10 @@ pub mod MarkerPlaces
 pub mod RuleFacts
 pub mod ColumnFacts
 pub mod PlainFacts
+pub mod KnownClosings
+pub mod MetadataFacts
+pub mod TableFacts
+pub mod HeaderRows
+pub mod DelimiterRows
+pub mod UnpipedBytes
+pub mod LowestBits

@@ -7,7 +7,7 @@ use Rattle.first_pass_items.specs.OptionWords.{has, tables}
 use Rattle.first_pass_tree.specs.declared.tree_index.TreeIndex.{TreeIndex}
 use Rattle.first_pass_tree.specs.Forest.{Forest, added, at_depth, kept_after, childless}
 use Rattle.first_pass_lines.specs.Places.{line_place}
-use Rattle.first_pass_table_scan.specs.TableHead.{head_columns}
+use Rattle.first_pass_scan.specs.TableHead.{head_columns}
 use Rattle.first_pass_tokens.specs.Braces.{MathBraces, no_braces}
 use Rattle.first_pass_tokens.specs.LineTokens.{Spot, spot, IsCell}
 use Rattle.first_pass_grammar.specs.Names.{Names}

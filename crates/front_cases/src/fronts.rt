@@ -3,9 +3,9 @@
 use crate::sums::Sums;
 use bitflags::Flags;
 use first_pass_blocks::pass::run_first_pass;
+use first_pass_cases::breach::Breach;
+use first_pass_cases::ranges::find_breach;
 use first_pass_items::option_set::Options;
-use first_pass_ranges::breach::Breach;
-use first_pass_ranges::ranges::find_breach;
 use std::alloc::{AllocError, Global};
 
 /// Checks each front of a text that ends at a character boundary, and appends each whose tree is not in order to the

@@ -6,7 +6,7 @@
 //! lines that begin with a number sign are headings.
 //!
 //! Each front of a text that ends at a character boundary, including the empty one and the whole text, is read under
-//! all options together. `first_pass_ranges` checks the order; it does not depend on the pass. Trees that are made
+//! all options together. `first_pass_cases` checks the order, without the pass. Trees that are made
 //! wrong test that it finds what is not in order.
 //!
 //! Prints each front whose tree is not in order, and each wrong tree that is not reported for its own fault; the last

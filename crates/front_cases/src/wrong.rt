@@ -3,10 +3,10 @@
 use crate::sums::Sums;
 use bitflags::Flags;
 use first_pass_blocks::pass::run_first_pass;
+use first_pass_cases::breach::{Breach, Flaw};
+use first_pass_cases::ranges::find_breach;
 use first_pass_items::item::{Item, ItemBody};
 use first_pass_items::option_set::Options;
-use first_pass_ranges::breach::{Breach, Flaw};
-use first_pass_ranges::ranges::find_breach;
 use first_pass_tree::forest::Tree;
 use first_pass_tree::tree_index::TreeIndex;
 use std::alloc::{AllocError, Global};

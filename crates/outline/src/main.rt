@@ -2,8 +2,8 @@
 //! decimal value of the options, by default 0.
 #![tactic(auto)]
 
+use first_pass_host::program::run_program;
 use first_pass_outline::run::ListedOutline;
-use first_pass_run::program::run_program;
 use std::process::ExitCode;
 
 fn main(rt: HostRuntime) -> ExitCode {

@@ -1,15 +1,15 @@
-//! Calls of `first_pass_scan` and `first_pass_metadata` for lines that open or close a leaf block.
+//! Calls of `first_pass_scan` and `first_pass_scan` for lines that open or close a leaf block.
 
 use crate::call::Call;
 use first_pass_cases::answer::Answer;
 use first_pass_cases::given::Given;
 use first_pass_lines::lines::level_number;
 use first_pass_lines::places::rest_of;
-use first_pass_metadata::metadata_scan::{scan_closing_metadata_block, scan_metadata_block};
-use first_pass_metadata::metadata_search::{MetadataEnds, metadata_at};
 use first_pass_scan::leaf_scan::{
     calc_indent, scan_closing_code_fence, scan_code_fence, scan_hrule, scan_setext_heading,
 };
+use first_pass_scan::metadata_scan::{scan_closing_metadata_block, scan_metadata_block};
+use first_pass_scan::metadata_search::{MetadataEnds, metadata_at};
 use std::alloc::AllocError;
 
 /// Makes a call for a thematic break, an underline, a fence or an indent. Returns `false` for any other call.

@@ -1,13 +1,13 @@
-//! Calls of `first_pass_host` and `first_pass_timing`: the words of the programs, and the line that `bench` writes.
+//! Calls of `first_pass_host` and `first_pass_host`: the words of the programs, and the line that `bench` writes.
 
 use crate::call::Call;
 use crate::walks::append_bits;
 use bitflags::Flags;
 use first_pass_cases::answer::Answer;
 use first_pass_host::option_word::parse_options;
-use first_pass_timing::report::append_report;
-use first_pass_timing::task::parse_task;
-use first_pass_timing::timing::Timing;
+use first_pass_host::task::parse_task;
+use first_pass_host::timing::Timing;
+use first_pass_host::timing_line::append_report;
 use std::alloc::{AllocError, Global};
 
 /// Makes a call for words or for a line of `bench`. Returns `false` for any other call. The result for a task is the

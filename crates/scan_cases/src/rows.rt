@@ -1,11 +1,11 @@
-//! Calls of `first_pass_table_scan`: header rows and delimiter rows.
+//! Calls of `first_pass_scan`: header rows and delimiter rows.
 
 use crate::call::Call;
 use first_pass_cases::answer::Answer;
 use first_pass_items::item::Alignment;
 use first_pass_scan::line_start::LineStart;
-use first_pass_table_scan::table_scan::scan_table_head;
-use first_pass_table_scan::table_start::{scan_delimiter_row, scan_head_columns};
+use first_pass_scan::table_scan::scan_table_head;
+use first_pass_scan::table_start::{scan_delimiter_row, scan_head_columns};
 use std::alloc::{AllocError, Global};
 
 /// Makes a call for a header row or a delimiter row. Returns `false` for any other call.

@@ -4,13 +4,13 @@ use crate::random::{random_options, random_pieces};
 use crate::report::{append_breach, append_line};
 use crate::task::{Task, parse_task};
 use first_pass_blocks::pass::run_first_pass;
+use first_pass_cases::breach::Breach;
+use first_pass_cases::pieces::{joined, remove_pieces};
+use first_pass_cases::ranges::find_breach;
+use first_pass_host::clock::TimeSource;
 use first_pass_host::fault::RunFault;
+use first_pass_host::timing::read_clock;
 use first_pass_items::option_set::Options;
-use first_pass_ranges::breach::Breach;
-use first_pass_ranges::pieces::{joined, remove_pieces};
-use first_pass_ranges::ranges::find_breach;
-use first_pass_timing::clock::TimeSource;
-use first_pass_timing::timing::read_clock;
 use rand_pcg::Pcg32;
 use std::alloc::{AllocError, Global};
 

@@ -1,6 +1,6 @@
 //! `soak [SECONDS [SEED]]`: reads random texts, and checks that the ranges of their trees are in order.
 //!
-//! Each text is a sequence of snippets, and is read under random options. `first_pass_ranges` checks the order; it
+//! Each text is a sequence of snippets, and is read under random options. `first_pass_cases` checks the order; it
 //! does not depend on the pass. Texts are read for SECONDS seconds, by default 60, but at least 1,000 texts, or until
 //! the tree of one is not in order. The same SEED gives the same texts; the default is the reading of the clock.
 //!
@@ -16,10 +16,10 @@ mod snippets;
 mod task;
 
 use crate::batches::soak;
+use first_pass_host::clock::HostClock;
 use first_pass_host::fault::RunFault;
 use first_pass_host::output::write_whole;
 use first_pass_host::words::words_of;
-use first_pass_timing::clock::HostClock;
 use std::process::ExitCode;
 
 fn run(rt: &HostRuntime) -> Result<u8, RunFault> {

@@ -1,9 +1,9 @@
 //! The printed report.
 
 use bitflags::Flags;
+use first_pass_cases::breach::Breach;
 use first_pass_cases::pictures::append_shown;
 use first_pass_items::option_set::Options;
-use first_pass_ranges::breach::Breach;
 use std::alloc::AllocError;
 
 /// Appends what is wrong with the tree of a text, and the text, with a bar before each line.

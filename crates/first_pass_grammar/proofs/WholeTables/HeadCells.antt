@@ -9,7 +9,7 @@ use Rattle.first_pass_grammar.proofs.Common.{is_blank_line, head_columns, MathBr
 use Rattle.first_pass_grammar.proofs.Common.{AreCells}
 use Rattle.std.proofs.lemmas.List.Sums.{take_while-cons}
 use Rattle.first_pass_grammar.proofs.Order.RowEnds.{pipe_inside}
-use Rattle.first_pass_table_scan.specs.TableHead.{is_pipe, pipes_after, header_columns, last_pipe_after}
+use Rattle.first_pass_scan.specs.TableHead.{is_pipe, pipes_after, header_columns, last_pipe_after}
 use Rattle.first_pass_tokens.specs.MarkupBytes.{PipesAreEscaped}
 use Rattle.first_pass_tokens.proofs.CellPipes.{cell_pipes}
 use Rattle.first_pass_tokens.proofs.LineLemmas.{pieces_reach}

@@ -1,7 +1,7 @@
 //! What a line start consumes, call after call, and the columns of a header row.
 
 use first_pass_scan::line_start::LineStart;
-use first_pass_table_scan::table_scan::count_header_cols;
+use first_pass_scan::table_scan::count_header_cols;
 use std::alloc::AllocError;
 use std::test::Fail;
 

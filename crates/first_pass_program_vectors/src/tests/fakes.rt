@@ -1,10 +1,10 @@
 //! A clock, a reader and a writer in memory that can fail.
 
 use first_pass_bench::bench::bench_run;
+use first_pass_host::clock::TimeSource;
 use first_pass_host::fault::RunFault;
 use first_pass_outline::run::outline_run;
 use first_pass_program::run::{blocks_run, links_run, tree_run};
-use first_pass_timing::clock::TimeSource;
 use std::alloc::{AllocError, Global};
 use std::io;
 use std::io::{ErrorKind, Read, Write};

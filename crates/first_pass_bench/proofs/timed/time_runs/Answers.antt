@@ -1,6 +1,6 @@
 use Rattle.std.proofs.Common.{sym, subst, ◌∙◌}
 use Rattle.first_pass_bench.specs.Bench.{CountsNodes}
-use Rattle.first_pass_timing.proofs.RunLemmas.{all_runs, first_run, next_run}
+use Rattle.first_pass_host.proofs.TimingLemmas.{all_runs, first_run, next_run}
 use Rattle.first_pass_bench.proofs.timed.time_runs.Goals as goal
 
 pub loop-alloc-init : goal.loop-alloc-init

@@ -1,6 +1,6 @@
 use Rattle.std.proofs.Common.{◌≡◌, ◌-◌, ◌^◌}
 use Rattle.first_pass_bench.specs.Bench.{CountsNodes}
-use Rattle.first_pass_timing.proofs.RunLemmas.{SoFar}
+use Rattle.first_pass_host.proofs.TimingLemmas.{SoFar}
 use Rattle.first_pass_bench.proofs.timed.time_runs.Given as goal
 
 -- the runs so far

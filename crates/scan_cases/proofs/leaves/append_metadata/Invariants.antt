@@ -1,4 +1,4 @@
-use Rattle.first_pass_metadata.specs.MetadataSearch.{IsKnownOf}
+use Rattle.first_pass_scan.specs.MetadataSearch.{IsKnownOf}
 use Rattle.scan_cases.proofs.leaves.append_metadata.Given as goal
 
 abbrev pub invariant-loop-place : goal.invariant-loop-place

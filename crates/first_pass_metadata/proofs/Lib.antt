@@ -1,2 +1,0 @@
-pub mod KnownFacts
-pub mod MetadataFacts

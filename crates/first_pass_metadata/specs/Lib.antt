@@ -1,2 +1,0 @@
-pub mod Metadata
-pub mod MetadataSearch

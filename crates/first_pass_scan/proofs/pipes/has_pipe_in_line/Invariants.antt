@@ -1,0 +1,12 @@
+use Rattle.std.proofs.Common.{◌≡◌, ℕ, ◌<◌, ◌≤◌, ◌-◌, get_or, true}
+use Rattle.first_pass_scan.specs.Pipes.{is_unpiped}
+use Rattle.first_pass_scan.proofs.pipes.has_pipe_in_line.Given as goal
+
+abbrev pub invariant-loop-from : goal.invariant-loop-from
+invariant-loop-from l = record {
+  within : l.from ≤ l.near;
+  none : (k : ℕ) → k < l.from → is_unpiped (get_or l.bytes k 0) ≡ true;
+}
+
+abbrev pub decreases-loop-from : goal.decreases-loop-from
+decreases-loop-from l = l.near - l.from

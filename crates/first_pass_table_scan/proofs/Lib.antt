@@ -1,5 +1,0 @@
-pub mod TableFacts
-pub mod HeaderRows
-pub mod DelimiterRows
-pub mod UnpipedBytes
-pub mod LowestBits

@@ -1,5 +1,0 @@
-use Rattle.first_pass_table_scan.proofs.HeaderRows.{IsCounted}
-use Rattle.first_pass_table_scan.proofs.table_start.count_pipes.Given as goal
-
-abbrev pub invariant-loop-at : goal.invariant-loop-at
-invariant-loop-at l = record { counted : IsCounted l.row l.at l.pipes l.end }

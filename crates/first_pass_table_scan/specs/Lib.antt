@@ -1,2 +1,0 @@
-pub mod TableHead
-pub mod Pipes

@@ -1,2 +1,0 @@
-pub mod RunLemmas
-mod Words
