@@ -4,3 +4,5 @@ pub mod FootnoteLabels
 pub mod FootnoteOpened
 pub mod Leaves
 pub mod LinkDefinitions
+pub mod OpenedContainer
+pub mod TriedFootnote
