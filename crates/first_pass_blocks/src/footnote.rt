@@ -6,8 +6,8 @@ ghost use Rattle.first_pass_lines.specs.Places.{IsPlaceOf};
 ghost use Rattle.std.specs.Prelude.{◌≡◌, ◌+◌, ◌<◌, None, IfOk, IfSome, IsUtf8, IsCharBoundary};
 
 use crate::state::BlockPass;
-use first_pass_containers::footnote::{footnote_mark, place_after_head};
-use first_pass_definitions::footnote::scan_footnote;
+use first_pass_containers::footnote_place::{footnote_mark, place_after_head};
+use first_pass_definitions::footnote_head::scan_footnote;
 use first_pass_lines::lines::scan_whitespace_no_nl;
 use first_pass_lines::places::rest_of;
 use first_pass_open::place::Place;

@@ -4,6 +4,6 @@
 #![tactic(auto)]
 
 pub mod containers;
-pub mod footnote;
+pub mod footnote_place;
 pub mod laws;
 pub mod openers;

@@ -2,7 +2,7 @@
 //! heads of footnote definitions. Which lines may head a table: `line_may_head_table` of `first_pass_kinds`.
 #![tactic(auto)]
 
-pub mod footnote;
+pub mod footnote_head;
 pub mod label;
 pub mod laws;
 pub mod reference;

@@ -5,7 +5,7 @@ use crate::containers::{open_path, options_of};
 use crate::links::append_cow;
 use bitflags::Flags;
 use first_pass_cases::answer::Answer;
-use first_pass_definitions::footnote::scan_footnote;
+use first_pass_definitions::footnote_head::scan_footnote;
 use first_pass_definitions::reference::parse_refdef_total;
 use first_pass_items::option_set::Options;
 use first_pass_labels::label_key::LabelKey;

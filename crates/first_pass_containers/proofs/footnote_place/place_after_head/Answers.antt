@@ -2,7 +2,7 @@ use Rattle.std.proofs.Common.{◌≡◌, ◌+◌, ◌≤◌, arith, drop, sym, a
 use Rattle.first_pass_grammar.proofs.Common.{gfm_footnotes, Place, line_rest, place_at, line_end, IsPlaceOf, line_is_place, lines_from}
 use Rattle.first_pass_containers.specs.FootnoteHeads.{head_end}
 use Rattle.first_pass_containers.proofs.Openings.HeadLemmas.{continues}
-use Rattle.first_pass_containers.proofs.footnote.place_after_head.Goals as goal
+use Rattle.first_pass_containers.proofs.footnote_place.place_after_head.Goals as goal
 
 -- blocks continue at the place that was found
 pub returns : goal.returns

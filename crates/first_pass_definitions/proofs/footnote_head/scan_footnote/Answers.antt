@@ -5,7 +5,7 @@ use Rattle.first_pass_links.proofs.Footnotes.{after_mark}
 use Rattle.first_pass_open.specs.Path.{context_of}
 use Rattle.first_pass_kinds.specs.Memory.{line_may_head_table}
 use Rattle.first_pass_definitions.proofs.Asks.{footnote_asks, place_from}
-use Rattle.first_pass_definitions.proofs.footnote.scan_footnote.Goals as goal
+use Rattle.first_pass_definitions.proofs.footnote_head.scan_footnote.Goals as goal
 
 pub returns-clause-borrowed : goal.returns-clause-borrowed
 returns-clause-borrowed c = rw c.range_from.ensures.value at c.scan_footnote_head.ensures.borrowed
