@@ -1,11 +1,11 @@
 //! `bench [BITS [RUNS]]`: times the pass over the Markdown text on standard input.
 #![tactic(auto)]
 
-use first_pass_bench::bench::bench_run;
 use first_pass_host::clock::HostClock;
 use first_pass_host::exit::exit_code;
 use first_pass_host::fault::RunFault;
 use first_pass_host::words::words_of;
+use first_pass_program::bench::bench_run;
 use std::process::ExitCode;
 
 fn bench(rt: &HostRuntime) -> Result<(), RunFault> {

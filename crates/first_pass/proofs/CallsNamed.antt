@@ -15,7 +15,7 @@ use Rattle.first_pass_grammar.proofs.Names.NamedItems.{HasEntry, IsNamed, block_
 use Rattle.first_pass_grammar.proofs.Names.NamedItems.{named_modified, text_is_free, tokens_entered}
 use Rattle.first_pass_grammar.proofs.Each.EachCell.{both_nodes, cells_nodes, nodes_named, row_nodes, rows_nodes}
 use Rattle.first_pass_grammar.proofs.Names.TextsNamed.{given_entry}
-use Rattle.first_pass_raw.specs.RawBlocks.{AppendsRaw}
+use Rattle.first_pass_leaves.specs.RawBlocks.{AppendsRaw}
 use Rattle.first_pass_tables.specs.Appends.{ReadsRow}
 use Rattle.first_pass.proofs.CutOrder.{cut_cases}
 

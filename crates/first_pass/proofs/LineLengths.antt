@@ -6,7 +6,7 @@ use Rattle.first_pass_items.specs.declared.item.HeadingLevel.TheVariants.{H1, H2
 use Rattle.first_pass_lines.proofs.LineFacts.{line_len-blank, line_len-eol}
 use Rattle.first_pass_lines.proofs.PlaceFacts.{bytes_line_end}
 use Rattle.first_pass_scan.specs.LeafLines.{in_rule, is_rule_byte, rule_len, underline_len}
-use Rattle.first_pass_text.proofs.HeadingLemmas.{prefix_in}
+use Rattle.first_pass_leaves.proofs.HeadingLemmas.{prefix_in}
 
 run_line : (c : ℕ) (level : HeadingLevel) (bs : List ℕ) (found : ℕ × HeadingLevel) → is_content c ≡ true
     → option_map (λ n. (n, level)) (underline_len c bs) ≡ Some found → found.0 ≡ line_len bs

@@ -12,7 +12,7 @@ use Rattle.first_pass_blocks.proofs.Common.{ordered_appended, ordered_none}
 use Rattle.first_pass_tree.specs.Forest.{ends_text_at}
 use Rattle.first_pass_tree.proofs.Keeps.{appended-is}
 use Rattle.first_pass_tokens.proofs.OrderLemmas.{cell_in_order}
-use Rattle.first_pass_text.proofs.TextFronts.{front_utf8, place_in_front, place_in_text, order_in_text}
+use Rattle.first_pass_leaves.proofs.TextFronts.{front_utf8, place_in_front, place_in_text, order_in_text}
 use Rattle.first_pass_grammar.proofs.Order.Orders.{beside, laid_open-beside, extents-ended}
 use Rattle.first_pass_order.proofs.RowSplits.{last_child, fits_open_last}
 

@@ -19,7 +19,7 @@ use Rattle.first_pass_grammar.proofs.WholeTables.TableMarks.{none_shown, tokens_
 use Rattle.first_pass_grammar.proofs.WholeTables.WholeBlocks.{whole_none}
 use Rattle.first_pass_grammar.proofs.WholeTables.WholeForests.{whole_both, whole_same}
 use Rattle.first_pass_tree.specs.Forest.{ends_text_at}
-use Rattle.first_pass_raw.specs.RawBlocks.{AppendsRaw}
+use Rattle.first_pass_leaves.specs.RawBlocks.{AppendsRaw}
 use Rattle.first_pass_lists.specs.Closing.{list_continued}
 use Rattle.first_pass_order.proofs.Nests.{title_there}
 use Rattle.first_pass_order.proofs.PropertyKept.{MayLeave, list_continued_keeps}

@@ -4,7 +4,7 @@ use Rattle.first_pass_grammar.proofs.Common.{Item, Paragraph, TreeIndex, Forest,
 use Rattle.first_pass_grammar.proofs.Common.{order_bound, order_to, Document, TextLines, IsOrderedTo, extent_of, IsBetween}
 use Rattle.first_pass_blocks.proofs.Common.{begun_item, path_of, ordered_appended, ordered_later}
 use Rattle.first_pass_open.specs.OpenBlock.{with_child}
-use Rattle.first_pass_text.proofs.OrderParagraph.{TextInOrder, text_is_in_order}
+use Rattle.first_pass_leaves.proofs.OrderParagraph.{TextInOrder, text_is_in_order}
 use Rattle.first_pass.specs.Holds.{HoldsChain, HoldsText, HoldsTokens}
 use Rattle.first_pass.proofs.Chains.{chain_holds, chain_in, marked_is, tokens_in}
 

@@ -10,8 +10,8 @@ use Rattle.first_pass_items.specs.declared.option_set.Options.{Options}
 use Rattle.first_pass_tree.specs.Forest.{added, appended}
 use Rattle.first_pass_tree.specs.declared.tree_index.TreeIndex.{TreeIndex}
 use Rattle.first_pass_scan.specs.LeafLines.{hrule_len}
-use Rattle.first_pass_flank.specs.declared.flank.TableParseMode.{TableParseMode}
-use Rattle.first_pass_flank.specs.declared.flank.TableParseMode.TheVariants.{Active}
+use Rattle.first_pass_walk.specs.declared.flank.TableParseMode.{TableParseMode}
+use Rattle.first_pass_walk.specs.declared.flank.TableParseMode.TheVariants.{Active}
 use Rattle.first_pass_html.specs.Ends.{BlockEnd}
 use Rattle.first_pass_lines.specs.Places.{Place}
 use Rattle.first_pass_grammar.specs.Completion.{lines_from}
@@ -30,12 +30,12 @@ use Rattle.first_pass_tokens.specs.LineTokens.{is_break}
 use Rattle.first_pass_open.specs.Between.{line_end_at, AddsBetween, MarkerIsInItem, MarkerBetween}
 use Rattle.first_pass_lists.specs.Closing.{begun, state_with, with_block, empty_item_closed, is_item, is_list, top_body}
 use Rattle.first_pass_lists.specs.declared.state.PassState.{PassState}
-use Rattle.first_pass_raw.specs.RawBlocks.{IsPlaceAt, range_of, AppendsRaw, AddsIndented, AddsRaw, fenced_after, metadata_after, html_to_end, html_to_blank}
-use Rattle.first_pass_raw.specs.declared.fenced_code.Fence.{Fence}
-use Rattle.first_pass_raw.specs.declared.raw_line.RawKind.{RawKind}
+use Rattle.first_pass_leaves.specs.RawBlocks.{IsPlaceAt, range_of, AppendsRaw, AddsIndented, AddsRaw, fenced_after, metadata_after, html_to_end, html_to_blank}
+use Rattle.first_pass_leaves.specs.declared.fenced_code.Fence.{Fence}
+use Rattle.first_pass_leaves.specs.declared.raw_line.RawKind.{RawKind}
 use Rattle.first_pass_tables.specs.Appends.{open_table, IsOpenNode, ReadsRow, ReadsRowLine, AppendsRows, AddsWholeRows}
 use Rattle.first_pass_tables.specs.declared.row.CellsWanted.{CellsWanted}
-use Rattle.first_pass_text.specs.Appends.{AddsHeading}
+use Rattle.first_pass_leaves.specs.Appends.{AddsHeading}
 use Rattle.first_pass_containers.specs.TextsAdded.{AddsText}
 use Rattle.first_pass_blocks.specs.OpenedFootnotes.{ReadsFootnote, StaysSame}
 use Rattle.first_pass_order.specs.Ordered.{IsOrderedAt, IsOrderedFrom, IsReadFrom, IsReadTo}

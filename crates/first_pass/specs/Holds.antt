@@ -23,7 +23,7 @@ use Rattle.first_pass_open.specs.Between.{line_end_at, MarkerBetween}
 use Rattle.first_pass_open.specs.OpenBlock.{IsJustPushed, begun_item, with_child}
 use Rattle.first_pass_open.specs.Path.{path_of}
 use Rattle.first_pass_lists.specs.Closing.{top_body}
-use Rattle.first_pass_text.specs.CutTexts.{BecomesHeading}
+use Rattle.first_pass_leaves.specs.CutTexts.{BecomesHeading}
 use Rattle.first_pass.specs.declared.state.FirstPass.{FirstPass}
 use Rattle.first_pass.specs.Closable.{IsClosable}
 use Rattle.first_pass.specs.Kept.{KeepsNames}

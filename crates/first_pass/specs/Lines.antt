@@ -10,8 +10,8 @@ use Rattle.first_pass_tokens.specs.Pieces.{Inline, text_upto}
 use Rattle.first_pass_tokens.specs.LineTokens.{EndsLine, EndsCell}
 use Rattle.first_pass_tokens.specs.TreeTokens.{AppendsLine, AppendsCell}
 use Rattle.first_pass_grammar.specs.TableHeads.{headed_table}
-use Rattle.first_pass_flank.specs.declared.flank.TableParseMode.{TableParseMode}
-use Rattle.first_pass_flank.specs.declared.flank.TableParseMode.TheVariants.{Scan, Active, Disabled}
+use Rattle.first_pass_walk.specs.declared.flank.TableParseMode.{TableParseMode}
+use Rattle.first_pass_walk.specs.declared.flank.TableParseMode.TheVariants.{Scan, Active, Disabled}
 use Rattle.first_pass_names.specs.TableEntries.{names_of, with_alignments, AddsTexts}
 use Rattle.first_pass_open.specs.Between.{line_end_at}
 use Rattle.first_pass.specs.declared.state.FirstPass.{FirstPass}

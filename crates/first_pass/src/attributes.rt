@@ -8,9 +8,9 @@ ghost use Rattle.std.specs.Prelude.{◌≡◌, ◌≤◌, length, slice_get, Som
 
 use crate::state::{FirstPass, recall_utf8};
 use first_pass_attributes::attrs::HeadingAttributes;
+use first_pass_leaves::attributes::{self, Underlined};
 use first_pass_lines::places::rest_of;
 use first_pass_scan::leaf_scan::scan_setext_heading;
-use first_pass_text::attributes::{self, Underlined};
 use first_pass_tree::tree_index::TreeIndex;
 use std::alloc::AllocError;
 

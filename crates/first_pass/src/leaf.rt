@@ -8,7 +8,7 @@ ghost use Rattle.std.specs.Prelude.{◌≡◌, ◌+◌, ◌≤◌, drop, Some, f
 
 use crate::state::{FirstPass, recall_utf8};
 use first_pass_items::item::{HeadingLevel, Item};
-use first_pass_text::{heading, rule};
+use first_pass_leaves::{heading, rule};
 use std::alloc::AllocError;
 
 impl<'a> FirstPass<'a> {

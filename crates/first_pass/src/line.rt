@@ -3,17 +3,17 @@
 ghost use Rattle.first_pass.specs.Calls.{AppendsTokens, ContinuesBlock, ReadsContent};
 ghost use Rattle.first_pass.specs.Lines.{CanBeRead, ContentReachesTo, ReadsPossibleHead};
 ghost use Rattle.first_pass.specs.Views.{source_text};
-ghost use Rattle.first_pass_flank.specs.declared.flank.TableParseMode.TheVariants.{Active, Disabled};
+ghost use Rattle.first_pass_walk.specs.declared.flank.TableParseMode.TheVariants.{Active, Disabled};
 ghost use Rattle.std.specs.Prelude.{IfOk, None};
 
 use crate::state::FirstPass;
-use first_pass_flank::flank::TableParseMode;
 use first_pass_items::item::{Item, ItemBody};
 use first_pass_kinds::table_start::scan_headed_line;
 use first_pass_lines::lines::content_len;
 use first_pass_lines::places::{next_line, rest_of};
 use first_pass_tokens::line::text_upto;
 use first_pass_tokens::pieces::Content;
+use first_pass_walk::flank::TableParseMode;
 use std::alloc::AllocError;
 
 impl<'a> FirstPass<'a> {

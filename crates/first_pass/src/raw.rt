@@ -3,18 +3,18 @@
 ghost use Rattle.first_pass.specs.Calls.{AddsFencedCode, AddsHtmlToBlank, AddsHtmlToEnd, AddsIndentedCode, AddsMetadata, AppendsRawLine};
 ghost use Rattle.first_pass.specs.Views.{source_text};
 ghost use Rattle.first_pass_html.specs.Ends.{condition_of};
+ghost use Rattle.first_pass_leaves.specs.declared.raw_line.RawKind.TheVariants.{Code, Html};
 ghost use Rattle.first_pass_lines.specs.Lines.{is_blank_line, is_content};
-ghost use Rattle.first_pass_raw.specs.declared.raw_line.RawKind.TheVariants.{Code, Html};
 ghost use Rattle.first_pass_scan.specs.LeafLines.{code_fence};
 ghost use Rattle.std.specs.Prelude.{◌≡◌, ◌≤◌, Some, true, false, max, length, drop, IfOk, OnOk, IsCharBoundary};
 
 use crate::state::FirstPass;
 use first_pass_html::ends::HtmlEnd;
-use first_pass_raw::fenced_code::Fence;
-use first_pass_raw::html_block::HtmlStart;
-use first_pass_raw::indented_code::CodeStart;
-use first_pass_raw::raw_line::{RawKind, RawLine, append_raw_line};
-use first_pass_raw::{fenced_code, html_block, indented_code, metadata_block};
+use first_pass_leaves::fenced_code::Fence;
+use first_pass_leaves::html_block::HtmlStart;
+use first_pass_leaves::indented_code::CodeStart;
+use first_pass_leaves::raw_line::{RawKind, RawLine, append_raw_line};
+use first_pass_leaves::{fenced_code, html_block, indented_code, metadata_block};
 use std::alloc::AllocError;
 
 impl<'a> FirstPass<'a> {

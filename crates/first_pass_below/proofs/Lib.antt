@@ -7,4 +7,4 @@ pub use Rattle.first_pass_lines.proofs.Columns
 pub use Rattle.first_pass_lines.proofs.HeadingFacts
 pub use Rattle.first_pass_lines.proofs.LineFacts
 pub use Rattle.first_pass_lines.proofs.PlaceFacts
-pub use Rattle.first_pass_flank.proofs.FlankFacts
+pub use Rattle.first_pass_walk.proofs.FlankFacts

@@ -5,5 +5,5 @@ pub use Rattle.first_pass_tree.specs.Lending
 pub use Rattle.first_pass_lines.specs.Lines
 pub use Rattle.first_pass_lines.specs.Rest
 pub use Rattle.first_pass_lines.specs.Places
-pub use Rattle.first_pass_flank.specs.Flank
-pub use Rattle.first_pass_flank.specs.Flanking
+pub use Rattle.first_pass_walk.specs.Flank
+pub use Rattle.first_pass_walk.specs.Flanking

@@ -1,7 +1,6 @@
 //! The names of the lower crates: options, items and texts, the tree, and the scanners.
 
 pub use first_pass_entities::entity::scan_entity;
-pub use first_pass_flank::flank::is_punctuation;
 pub use first_pass_html::ends::HtmlEnd;
 pub use first_pass_html::starts::{get_html_end_tag, starts_html_block_type_6};
 pub use first_pass_html::tags::scan_html_type_7;
@@ -26,3 +25,4 @@ pub use first_pass_scan::metadata_scan::{scan_closing_metadata_block, scan_metad
 pub use first_pass_scan::table_scan::{count_header_cols, scan_table_head};
 pub use first_pass_tree::forest::Tree;
 pub use first_pass_tree::tree_index::TreeIndex;
+pub use first_pass_walk::flank::is_punctuation;

@@ -4,5 +4,4 @@
 
 pub mod below;
 
-pub use first_pass_flank::flank;
-pub use first_pass_walk::walk;
+pub use first_pass_walk::{flank, walk};

@@ -21,10 +21,10 @@ pub use Rattle.first_pass_kinds.proofs.KindLemmas.{Says, kind_says}
 pub use Rattle.first_pass_names.specs.declared.items.Allocations.{Allocations}
 pub use Rattle.first_pass_names.specs.TableEntries.{NamesMore, link_entry, names_of, no_names, tables_in, tables_of}
 pub use Rattle.first_pass_names.proofs.NameLemmas.{extends_alignments, extends_both, extends_equal, extends_none}
-pub use Rattle.first_pass_raw.specs.declared.raw_line.RawKind.{RawKind}
-pub use Rattle.first_pass_raw.specs.declared.raw_line.RawKind.TheVariants.{Code, Html}
-pub use Rattle.first_pass_raw.specs.RawBlocks.{after_line_at, html_to_blank, range_of}
-pub use Rattle.first_pass_raw.proofs.IndentedLemmas.{first_at, first_is}
+pub use Rattle.first_pass_leaves.specs.declared.raw_line.RawKind.{RawKind}
+pub use Rattle.first_pass_leaves.specs.declared.raw_line.RawKind.TheVariants.{Code, Html}
+pub use Rattle.first_pass_leaves.specs.RawBlocks.{after_line_at, html_to_blank, range_of}
+pub use Rattle.first_pass_leaves.proofs.IndentedLemmas.{first_at, first_is}
 pub use Rattle.first_pass_lists.specs.declared.state.PassState.{PassState}
 pub use Rattle.first_pass_lists.specs.Closing.{is_list, list_finished, state_with, top_body, with_tree}
 pub use Rattle.first_pass_lists.proofs.NoEmptyItem.{list_finished_none}
@@ -45,9 +45,9 @@ pub use Rattle.first_pass_containers.proofs.Openings.Indented.{only_leaf}
 pub use Rattle.first_pass_containers.proofs.Openings.StartLemmas.{reads_none}
 pub use Rattle.first_pass_containers.proofs.OrderSteps.{IsStateAtPlace, block_ordered, line_or-below, list_finished_blank, ordered_finished, ordered_leaf}
 pub use Rattle.first_pass_containers.proofs.OrderSteps.{path_added, place_before_end, unindented_later}
-pub use Rattle.first_pass_text.specs.Appends.{AddsHeading}
-pub use Rattle.first_pass_text.specs.CutTexts.{BecomesHeading, CutsChildren}
-pub use Rattle.first_pass_text.proofs.OrderHeading.{line_stops}
+pub use Rattle.first_pass_leaves.specs.Appends.{AddsHeading}
+pub use Rattle.first_pass_leaves.specs.CutTexts.{BecomesHeading, CutsChildren}
+pub use Rattle.first_pass_leaves.proofs.OrderHeading.{line_stops}
 pub use Rattle.first_pass_tables.specs.Appends.{AppendsRows, OpenTable, ReadsRowLine, with_below}
 pub use Rattle.first_pass_definitions.specs.Found.{IsReference}
 pub use Rattle.first_pass_blocks.specs.OpenedFootnotes.{StaysSame, TriesFootnote}

@@ -11,13 +11,13 @@ use crate::state::BlockPass;
 use first_pass_html::ends::HtmlEnd;
 use first_pass_items::item::HeadingLevel;
 use first_pass_kinds::kinds::MarkedLeaf;
+use first_pass_leaves::fenced_code::{Fence, parse_fenced_code_block};
+use first_pass_leaves::heading::parse_atx_heading;
+use first_pass_leaves::html_block::{HtmlStart, parse_html_block_type_1_to_5};
+use first_pass_leaves::indented_code::{CodeStart, parse_indented_code_block};
+use first_pass_leaves::metadata_block::parse_metadata_block;
+use first_pass_leaves::rule::parse_hrule;
 use first_pass_open::place::Place;
-use first_pass_raw::fenced_code::{Fence, parse_fenced_code_block};
-use first_pass_raw::html_block::{HtmlStart, parse_html_block_type_1_to_5};
-use first_pass_raw::indented_code::{CodeStart, parse_indented_code_block};
-use first_pass_raw::metadata_block::parse_metadata_block;
-use first_pass_text::heading::parse_atx_heading;
-use first_pass_text::rule::parse_hrule;
 use std::alloc::AllocError;
 
 impl<'a> BlockPass<'a> {

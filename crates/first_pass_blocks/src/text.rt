@@ -18,11 +18,11 @@ ghost use Rattle.std.specs.Prelude.{◌≡◌, ◌≤◌, ◌+◌, false, ℕ, l
 use crate::state::BlockPass;
 use first_pass_items::item::{Item, ItemBody};
 use first_pass_kinds::table_start::{HeadedTable, scan_headed_table};
+use first_pass_leaves::paragraph::{TextStart, parse_paragraph};
 use first_pass_names::items::Allocations;
 use first_pass_open::open_block::open_block;
 use first_pass_open::source::Source;
 use first_pass_tables::rows::{TableRows, parse_table};
-use first_pass_text::paragraph::{TextStart, parse_paragraph};
 use first_pass_tree::forest::Tree;
 use std::alloc::AllocError;
 

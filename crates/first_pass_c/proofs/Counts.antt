@@ -2,14 +2,14 @@
 use Rattle.std.proofs.Common.{◌≡◌, ℕ, suc, ◌+◌, ◌≤◌, List, [], ◌∷◌, length, refl, sym, ap, subst, ◌∙◌, flat_map}
 use Rattle.first_pass_items.specs.declared.item.Item.{Item}
 use Rattle.first_pass_names.specs.TableEntries.{names_of}
-use Rattle.first_pass_flat.specs.FlatForm.{FlatForm}
-use Rattle.first_pass_flat.specs.FlatAttributes.{OneAttribute, attribute_bytes, attributes_by, flat_attributes}
-use Rattle.first_pass_flat.specs.FlatNodes.{first_place}
+use Rattle.first_pass_c.specs.FlatForm.{FlatForm}
+use Rattle.first_pass_c.specs.FlatAttributes.{OneAttribute, attribute_bytes, attributes_by, flat_attributes}
+use Rattle.first_pass_c.specs.FlatNodes.{first_place}
 use Rattle.first_pass_c.specs.declared.reading.FlatCounts.{FlatCounts}
 use Rattle.first_pass_c.specs.declared.reading.Parsed.{Parsed}
 use Rattle.first_pass_c.specs.Parsed.{HasSides, form_of}
 use Rattle.first_pass_c.specs.Reading.{counts_of}
-use Rattle.first_pass_flat.proofs.Filling.{records_counted}
+use Rattle.first_pass_c.proofs.Filling.{records_counted}
 
 -- a record for each attribute
 attributes_counted : (at : ℕ) (xs : List OneAttribute) → length (flat_attributes at xs) ≡ length xs

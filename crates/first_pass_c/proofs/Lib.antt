@@ -1,3 +1,9 @@
+pub mod Appending
+pub mod Sides
+pub mod Nexts
+pub mod Filling
+pub mod Bodies
+pub mod Reading
 mod Bits
 mod Counts
 mod Ranges

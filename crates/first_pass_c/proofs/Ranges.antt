@@ -4,8 +4,8 @@ use Rattle.first_pass_items.specs.declared.item.Item.{Item}
 use Rattle.first_pass_items.specs.declared.item.ItemBody.{ItemBody}
 use Rattle.first_pass_items.specs.declared.item.ItemBody.TheVariants.{Heading}
 use Rattle.first_pass_grammar.specs.Names.{Names}
-use Rattle.first_pass_flat.specs.declared.nodes.FlatPlace.{FlatPlace}
-use Rattle.first_pass_flat.specs.FlatNodes.{flat_node}
+use Rattle.first_pass_c.specs.declared.flat.nodes.FlatPlace.{FlatPlace}
+use Rattle.first_pass_c.specs.FlatNodes.{flat_node}
 use Rattle.first_pass_places.specs.NamePlaces.{name_range}
 use Rattle.first_pass_c.specs.Naming.{named_item, range_named}
 

@@ -1,8 +1,8 @@
 -- The result of reading a text, for the caller.
 use Rattle.std.proofs.Common.{◌≡◌, ℕ, List, All, inr, refl, ap, arith}
 use Rattle.first_pass_names.specs.TableEntries.{names_of, tables_of}
-use Rattle.first_pass_flat.specs.FlatForm.{FlatForm}
-use Rattle.first_pass_flat.specs.FlatNodes.{IsShort}
+use Rattle.first_pass_c.specs.FlatForm.{FlatForm}
+use Rattle.first_pass_c.specs.FlatNodes.{IsShort}
 use Rattle.first_pass_c.specs.declared.fault.Fault.{Fault}
 use Rattle.first_pass_c.specs.declared.fault.Fault.TheVariants.{OutOfMemory, NotUtf8, BadOptions, TooSmall, TooLong}
 use Rattle.first_pass_c.specs.declared.reading.FlatCounts.{FlatCounts}

@@ -1,3 +1,13 @@
+pub mod Kinds
+pub mod FlatAttributes
+pub mod FlatDefinitions
+pub mod FlatNodes
+pub mod FlatForm
+pub mod Appended
+pub mod Linked
+pub mod WrittenNodes
+pub mod Side
+pub mod Law
 pub mod Memory
 pub mod Naming
 pub mod Statuses

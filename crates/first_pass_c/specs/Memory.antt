@@ -1,8 +1,8 @@
 -- Arrays of the caller (this project).
 use Rattle.std.specs.Prelude.{◌≡◌, ℕ, List, length, take, drop}
-use Rattle.first_pass_flat.specs.declared.records.FlatNode.{FlatNode}
-use Rattle.first_pass_flat.specs.declared.records.FlatAttribute.{FlatAttribute}
-use Rattle.first_pass_flat.specs.declared.records.FlatDefinition.{FlatDefinition}
+use Rattle.first_pass_c.specs.declared.flat.records.FlatNode.{FlatNode}
+use Rattle.first_pass_c.specs.declared.flat.records.FlatAttribute.{FlatAttribute}
+use Rattle.first_pass_c.specs.declared.flat.records.FlatDefinition.{FlatDefinition}
 
 -- the arrays into which a flat form is written (this project)
 pub record Memory : Type 0 where

@@ -5,7 +5,7 @@ use Rattle.first_pass_items.specs.declared.item.Item.{Item}
 use Rattle.first_pass_items.specs.declared.item.ItemBody.{ItemBody}
 use Rattle.first_pass_items.specs.declared.item.ItemBody.TheVariants.{Root, Heading, FencedCodeBlock, FootnoteDefinition}
 use Rattle.first_pass_items.specs.declared.item.HeadingLevel.TheVariants.{H1}
-use Rattle.first_pass_flat.specs.declared.records.FlatNode.{FlatNode}
+use Rattle.first_pass_c.specs.declared.flat.records.FlatNode.{FlatNode}
 use Rattle.first_pass_places.specs.NamePlaces.{name_range}
 use Rattle.first_pass_c.specs.declared.naming.FlatRange.{FlatRange}
 

@@ -11,8 +11,8 @@ use Rattle.first_pass_grammar.specs.WholeTables.{AreWholeTables}
 use Rattle.first_pass_names.specs.TableEntries.{names_of, tables_of}
 use Rattle.first_pass_order.specs.Settled.{AreSettled}
 use Rattle.first_pass_host.specs.OptionWord.{known_bits}
-use Rattle.first_pass_flat.specs.FlatForm.{FlatForm, flat_form}
-use Rattle.first_pass_flat.specs.Side.{AreSideTables}
+use Rattle.first_pass_c.specs.FlatForm.{FlatForm, flat_form}
+use Rattle.first_pass_c.specs.Side.{AreSideTables}
 use Rattle.first_pass_c.specs.declared.reading.Parsed.{Parsed}
 
 -- each bit is the bit of an option (this project)

@@ -3,8 +3,8 @@ use Rattle.std.specs.Prelude.{◌≡◌, ◌<◌, ◌≤◌, ◌⊎◌, ◌^◌,
 use Rattle.first_pass_items.specs.declared.item.Item.{Item}
 use Rattle.first_pass_grammar.specs.Names.{Names}
 use Rattle.first_pass_grammar.specs.Derivation.{Tables}
-use Rattle.first_pass_flat.specs.FlatForm.{FlatForm, flat_form}
-use Rattle.first_pass_flat.specs.FlatNodes.{IsShort}
+use Rattle.first_pass_c.specs.FlatForm.{FlatForm, flat_form}
+use Rattle.first_pass_c.specs.FlatNodes.{IsShort}
 use Rattle.first_pass_c.specs.declared.fault.Fault.{Fault}
 use Rattle.first_pass_c.specs.declared.fault.Fault.TheVariants.{OutOfMemory, NotUtf8, BadOptions, TooSmall, TooLong}
 use Rattle.first_pass_c.specs.declared.reading.FlatCounts.{FlatCounts}

@@ -1,8 +1,8 @@
 //! The law of ranges of names.
 
+ghost use Rattle.first_pass_c.specs.declared.flat.nodes.FlatPlace.{FlatPlace};
+ghost use Rattle.first_pass_c.specs.FlatNodes.{flat_node};
 ghost use Rattle.first_pass_c.specs.Naming.{range_named};
-ghost use Rattle.first_pass_flat.specs.declared.nodes.FlatPlace.{FlatPlace};
-ghost use Rattle.first_pass_flat.specs.FlatNodes.{flat_node};
 ghost use Rattle.first_pass_grammar.specs.Names.{Names};
 ghost use Rattle.first_pass_items.specs.declared.item.Item.{Item};
 ghost use Rattle.first_pass_places.specs.NamePlaces.{name_range};

@@ -10,6 +10,7 @@ ghost use Rattle.std.specs.Prelude.{◌≡◌, ◌≢◌, ◌≤◌, IsUtf8, Non
 
 pub mod copying;
 pub mod fault;
+pub mod flat;
 pub mod folding;
 pub mod laws;
 pub mod naming;
@@ -18,10 +19,10 @@ pub mod reading;
 mod tests;
 
 use crate::fault::{Fault, status_of};
+use crate::flat::records::{FlatAttribute, FlatDefinition, FlatNode};
 use crate::folding::fold_into;
 use crate::naming::{FlatRange, range_named};
 use crate::reading::{FlatCounts, read_text, write_into};
-use first_pass_flat::records::{FlatAttribute, FlatDefinition, FlatNode};
 use std::alloc::Global;
 
 /// Reads the blocks of a text under the options with these bits. At status 0 the four arrays begin with the flat form

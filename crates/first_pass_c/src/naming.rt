@@ -4,7 +4,7 @@ ghost use Rattle.first_pass_c.specs.Naming.{body_of, flat_range, range_named};
 ghost use Rattle.std.specs.Option.{option_map};
 ghost use Rattle.std.specs.Prelude.{◌≡◌};
 
-use first_pass_flat::records::FlatNode;
+use crate::flat::records::FlatNode;
 use first_pass_items::item::{CowIndex, HeadingIndex, HeadingLevel, Item, ItemBody};
 use first_pass_places::name::name_range_in;
 

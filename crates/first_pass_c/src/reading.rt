@@ -7,11 +7,11 @@ ghost use Rattle.std.specs.Prelude.{◌≡◌, IfErr, IfOk, IfSome, IsNone, OnOk
 
 use crate::copying::copy_into;
 use crate::fault::Fault;
+use crate::flat::nodes::fill_nodes;
+use crate::flat::records::{FlatAttribute, FlatDefinition, FlatNode};
+use crate::flat::side::{SideTables, side_tables};
 use bitflags::Flags;
 use first_pass_blocks::pass::run_first_pass;
-use first_pass_flat::nodes::fill_nodes;
-use first_pass_flat::records::{FlatAttribute, FlatDefinition, FlatNode};
-use first_pass_flat::side::{SideTables, side_tables};
 use first_pass_items::item::Item;
 use first_pass_items::option_set::Options;
 use first_pass_names::items::Allocations;

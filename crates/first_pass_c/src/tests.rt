@@ -1,8 +1,8 @@
 //! The two calls, as a C program makes them.
 
+use crate::flat::records::{FlatAttribute, FlatDefinition, FlatNode};
 use crate::reading::FlatCounts;
 use crate::{first_pass_fold, first_pass_read};
-use first_pass_flat::records::{FlatAttribute, FlatDefinition, FlatNode};
 use std::alloc::Global;
 use std::test::Fail;
 

@@ -5,7 +5,7 @@ use Rattle.first_pass_items.specs.declared.item.Item.{Item}
 use Rattle.first_pass_grammar.specs.Names.{Names}
 use Rattle.first_pass_grammar.specs.LinkTables.{LinkEntry}
 use Rattle.first_pass_grammar.specs.Derivation.{Tables}
-use Rattle.first_pass_printed.specs.Printed.{kind_name}
+use Rattle.first_pass_reports.specs.Printed.{kind_name}
 use Rattle.first_pass_json.specs.JsonValues.{decimal, json_string, word, text_or_null}
 use Rattle.first_pass_json.specs.Members.{block_members, token_members}
 

@@ -3,7 +3,7 @@ use Rattle.std.specs.Prelude.{Option, None, Some, List, [], ◌∷◌, ◌++◌,
 use Rattle.std.specs.List.{flat_map}
 pub use Rattle.std.specs.Prelude.{decimal, encode_utf8}
 use Rattle.json.specs.Print.{quoted}
-pub use Rattle.first_pass_printed.specs.Printed.{flag_name as boolean}
+pub use Rattle.first_pass_reports.specs.Printed.{flag_name as boolean}
 
 -- a text as a string in quotation marks, with the shortest escapes, in the form of `serde_json`
 unfoldable pub json_string : List ℕ → List ℕ

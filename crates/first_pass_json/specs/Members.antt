@@ -15,7 +15,7 @@ use Rattle.first_pass_items.specs.declared.item.ItemBody.TheVariants.{Synthesize
 use Rattle.first_pass_lines.specs.Lines.{level_number}
 use Rattle.first_pass_attributes.specs.Attributes.{Attributes, no_attributes}
 use Rattle.first_pass_grammar.specs.Names.{Names, text_named, alignments_named}
-use Rattle.first_pass_printed.specs.Printed.{quote_name, metadata_name}
+use Rattle.first_pass_reports.specs.Printed.{quote_name, metadata_name}
 use Rattle.first_pass_json.specs.JsonValues.{decimal, encode_utf8, json_string, boolean, word, text_or_null, array}
 
 -- a key of a heading and its value, or `null` if it has none

@@ -4,7 +4,7 @@ ghost use Rattle.first_pass_json.specs.JsonLines.{node_line, node_members, range
 ghost use Rattle.first_pass_json.specs.JsonValues.{boolean, word};
 ghost use Rattle.first_pass_json.specs.Members.{block_members, character_of, is_tight, quote_or_null};
 ghost use Rattle.first_pass_names.specs.TableEntries.{names_of};
-ghost use Rattle.first_pass_printed.specs.Printed.{metadata_name};
+ghost use Rattle.first_pass_reports.specs.Printed.{metadata_name};
 ghost use Rattle.std.specs.Prelude.{◌≡◌, ◌++◌, OnOk, codes, decimal};
 
 use crate::heading::append_heading;
@@ -16,7 +16,7 @@ use crate::values::{
 use bitflags::Flags;
 use first_pass_items::item::{BlockQuoteKind, Item, ItemBody, ListFlags, MetadataBlockKind};
 use first_pass_names::items::Allocations;
-use first_pass_printed::node::{attributes_at, body_name, metadata_name, quote_name};
+use first_pass_reports::printed::node::{attributes_at, body_name, metadata_name, quote_name};
 use std::alloc::AllocError;
 
 /// Appends the line of a node: its kind, its depth, its range, and the members of its kind.

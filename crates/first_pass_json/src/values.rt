@@ -5,7 +5,7 @@ ghost use Rattle.first_pass_json.specs.Members.{character_of};
 ghost use Rattle.std.specs.Option.{option_map};
 ghost use Rattle.std.specs.Prelude.{◌≡◌, ◌++◌, OnOk, encode_utf8};
 
-use first_pass_printed::node::{append_number, flag_name};
+use first_pass_reports::printed::node::{append_number, flag_name};
 use itoa::Integer;
 use std::alloc::AllocError;
 

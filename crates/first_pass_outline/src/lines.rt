@@ -11,7 +11,7 @@ use crate::outline::OutlineEntry;
 use first_pass_host::fault::RunFault;
 use first_pass_host::output::write_each;
 use first_pass_lines::lines::level_number;
-use first_pass_printed::node::append_number;
+use first_pass_reports::printed::node::append_number;
 use std::alloc::{AllocError, Global};
 use std::io::Write;
 

@@ -10,16 +10,16 @@ ghost use Rattle.first_pass_host.specs.Runs.{Runs};
 ghost use Rattle.first_pass_host.specs.Streams.{stream_between};
 ghost use Rattle.first_pass_host.specs.TreeReports.{AreTreeLines};
 ghost use Rattle.first_pass_json.specs.JsonLines.{json_lines};
-ghost use Rattle.first_pass_printed.specs.Printed.{printed_lines};
-ghost use Rattle.first_pass_references.specs.Lines.{links_lines};
+ghost use Rattle.first_pass_reports.specs.Printed.{printed_lines};
+ghost use Rattle.first_pass_reports.specs.ReferenceLines.{links_lines};
 
 use first_pass_blocks::parser::BlockParser;
 use first_pass_host::fault::RunFault;
 use first_pass_host::report::run_report;
 use first_pass_host::tree_report::TreeReport;
 use first_pass_json::run::JsonTree;
-use first_pass_printed::run::PrintedBlocks;
-use first_pass_references::run::ListedLinks;
+use first_pass_reports::printed::run::PrintedBlocks;
+use first_pass_reports::references::run::ListedLinks;
 use std::alloc::Global;
 use std::io::{Read, Write};
 

@@ -5,9 +5,9 @@ use Rattle.std.specs.Char.{is_ascii_alphanumeric}
 use Rattle.std.proofs.lemmas.Bool.{and_parts}
 use Rattle.std.proofs.lemmas.Bool.Decides.{nat_tests}
 use Rattle.first_pass_items.specs.Bytes.{underscore}
-use Rattle.first_pass_flank.specs.declared.flank.DelimiterRun.{DelimiterRun}
-use Rattle.first_pass_flank.specs.Flank.{can_open, can_close}
-use Rattle.first_pass_flank.proofs.WordFacts.{word_underscore, opens_not, closes_not, last_word, first_word, no_pipe}
+use Rattle.first_pass_walk.specs.declared.flank.DelimiterRun.{DelimiterRun}
+use Rattle.first_pass_walk.specs.Flank.{can_open, can_close}
+use Rattle.first_pass_walk.proofs.WordFacts.{word_underscore, opens_not, closes_not, last_word, first_word, no_pipe}
 use Rattle.first_pass_tokens.specs.declared.pieces.Piece.TheVariants.{Left}
 use Rattle.first_pass_tokens.specs.declared.pieces.TokenStart.TheVariants.{Ready}
 use Rattle.first_pass_tokens.specs.Pieces.{Inline, special_found, special_piece, delimiter_piece, run_size, run_in, run_piece, char_before, is_inside_word}

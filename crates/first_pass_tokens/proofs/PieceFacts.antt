@@ -19,8 +19,8 @@ use Rattle.first_pass_lines.specs.Lines.{is_line_end, is_white}
 use Rattle.first_pass_entities.specs.Entities.{entity_at}
 use Rattle.first_pass_entities.proofs.EntityFacts.{is_reference_byte, entity_is_reference}
 use Rattle.first_pass_walk.specs.Walk.{is_special}
-use Rattle.first_pass_flank.specs.declared.flank.DelimiterRun.{DelimiterRun}
-use Rattle.first_pass_flank.specs.Flank.{can_open, can_close}
+use Rattle.first_pass_walk.specs.declared.flank.DelimiterRun.{DelimiterRun}
+use Rattle.first_pass_walk.specs.Flank.{can_open, can_close}
 use Rattle.first_pass_tokens.specs.declared.pieces.TokenStart.{TokenStart}
 use Rattle.first_pass_tokens.specs.declared.pieces.TokenStart.TheVariants.{Ready, Reference, Dashes, Dollar, OpenBrace, CloseBrace}
 use Rattle.first_pass_tokens.specs.declared.pieces.Piece.{Piece}

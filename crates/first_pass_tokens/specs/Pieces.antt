@@ -7,8 +7,8 @@ use Rattle.std.specs.List.{prefix_len, slice_range}
 use Rattle.first_pass_lines.specs.Lines.{is_white_or_line_end}
 use Rattle.first_pass_items.specs.Bytes.{exclamation_mark, quotation_mark, dollar_sign, ampersand, apostrophe, hyphen, full_stop, less_than, left_bracket}
 use Rattle.first_pass_items.specs.Bytes.{backslash, right_bracket, backquote, left_brace, pipe, right_brace, asterisk, underscore, circumflex, tilde}
-use Rattle.first_pass_flank.specs.declared.flank.DelimiterRun.{DelimiterRun}
-use Rattle.first_pass_flank.specs.Flank.{first_char, last_char, ends_with_pipe, can_open, can_close}
+use Rattle.first_pass_walk.specs.declared.flank.DelimiterRun.{DelimiterRun}
+use Rattle.first_pass_walk.specs.Flank.{first_char, last_char, ends_with_pipe, can_open, can_close}
 use Rattle.first_pass_items.specs.declared.item.ItemBody.TheVariants.{MaybeCode, MaybeHtml, MaybeLinkOpen, MaybeLinkClose, MaybeImage, MaybeSmartQuote}
 use Rattle.first_pass_items.specs.declared.item.ItemBody.TheVariants.{SynthesizeChar}
 use Rattle.first_pass_items.specs.declared.option_set.Options.{Options}

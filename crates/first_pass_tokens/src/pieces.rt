@@ -6,11 +6,11 @@ ghost use Rattle.first_pass_tokens.specs.Pieces.{content_in, IsReadyAt, is_quick
 ghost use Rattle.std.specs.Prelude.{◌≡◌, ◌||◌, ◌+◌, ◌<◌, ◌≤◌, ◌^◌, true, false, IfSome, is_some, length, slice_index, take, ℕ, List, IsCharBoundary, IsUtf8};
 
 use first_pass_entities::entity::scan_reference;
-use first_pass_flank::flank::{DelimiterRun, ends_with_pipe, first_char, last_char};
 use first_pass_items::item::ItemBody;
 use first_pass_items::option_set::Options;
 use first_pass_lines::lines::is_white_or_line_end;
 use first_pass_lines::places::rest_of;
+use first_pass_walk::flank::{DelimiterRun, ends_with_pipe, first_char, last_char};
 
 /// The content of a line of text, or of a cell in a table row.
 #[derive(Clone, Copy, Drop)]

@@ -1,1 +1,3 @@
 pub mod Walk
+pub mod Flank
+pub mod Flanking

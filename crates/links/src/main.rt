@@ -5,7 +5,7 @@
 use first_pass_blocks::parser::BlockParser;
 use first_pass_host::program::run_program;
 use first_pass_host::tree_report::TreeReport;
-use first_pass_references::run::ListedLinks;
+use first_pass_reports::references::run::ListedLinks;
 use std::process::ExitCode;
 
 fn main(rt: HostRuntime) -> ExitCode {

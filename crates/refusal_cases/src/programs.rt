@@ -2,7 +2,6 @@
 
 use crate::case::Case;
 use crate::outcome::Outcome;
-use first_pass_bench::bench::bench_run;
 use first_pass_blocks::pass::run_first_pass;
 use first_pass_host::clock::TimeSource;
 use first_pass_host::fault::RunFault;
@@ -10,9 +9,10 @@ use first_pass_host::option_word::parse_options;
 use first_pass_host::words::words_of;
 use first_pass_items::item::Item;
 use first_pass_names::items::Allocations;
-use first_pass_printed::links::append_link;
-use first_pass_printed::node::append_node;
+use first_pass_program::bench::bench_run;
 use first_pass_program::run::{blocks_run, tree_run};
+use first_pass_reports::printed::links::append_link;
+use first_pass_reports::printed::node::append_node;
 use std::alloc::{AllocError, Global};
 use std::io;
 use std::io::Write;

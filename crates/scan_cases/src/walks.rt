@@ -5,8 +5,8 @@ use crate::containers::options_of;
 use bitflags::Flags;
 use first_pass_cases::answer::Answer;
 use first_pass_cases::given::Given;
-use first_pass_flank::flank::{TableParseMode, delim_run_can_close, delim_run_can_open};
 use first_pass_items::option_set::Options;
+use first_pass_walk::flank::{TableParseMode, delim_run_can_close, delim_run_can_open};
 use first_pass_walk::walk::{LoopInstruction, iterate_special_bytes, next_special, special_bytes};
 use std::alloc::{AllocError, Global};
 

@@ -20,7 +20,7 @@ use Rattle.first_pass_blocks.proofs.Common.{IsOrderedAt, IsReadFrom, line_end_of
 use Rattle.first_pass_blocks.proofs.Common.{path_finished, extends_none, first_at, first_is, AddsBetween, own_added, AddsHeading, OrderedIn}
 use Rattle.first_pass_blocks.specs.Adding.{AddsLeaf, IsFoundIn}
 use Rattle.first_pass_kinds.specs.declared.kinds.MarkedLeaf.{MarkedLeaf}
-use Rattle.first_pass_raw.specs.RawBlocks.{IsPlaceAt, AddsRaw, html_to_end, code_after, AddsIndented, metadata_after, fenced_after}
+use Rattle.first_pass_leaves.specs.RawBlocks.{IsPlaceAt, AddsRaw, html_to_end, code_after, AddsIndented, metadata_after, fenced_after}
 use Rattle.first_pass_blocks.specs.declared.state.BlockPass.{BlockPass}
 use Rattle.first_pass_containers.proofs.OrderSteps.{ordered_tree}
 use Rattle.first_pass_blocks.proofs.LinkDefinitions.{written_stay}
@@ -37,15 +37,15 @@ use Rattle.first_pass_order.specs.LeafBlocks.{AddsKind}
 use Rattle.first_pass_kinds.specs.BlockStart.{IsFoundAt}
 use Rattle.first_pass_kinds.specs.declared.kinds.BlockStart.TheVariants.{HtmlToBlank as FoundHtml}
 use Rattle.first_pass_grammar.specs.HtmlBlocks.{until_blank}
-use Rattle.first_pass_raw.proofs.RawOrder.{first_line, ArePlaced, IsPlaced, html_few, ends_before_next, kept_last, indented_fits, fenced_fits, metadata_fits}
-use Rattle.first_pass_raw.proofs.RawOrder.{html_fits, indented_after_placed, indented_after_few, fenced_after_placed, metadata_after_placed, to_end_placed}
-use Rattle.first_pass_raw.proofs.RawOrder.{to_blank_placed, Around}
-use Rattle.first_pass_raw.proofs.FencedLemmas.{fence_plain}
+use Rattle.first_pass_leaves.proofs.RawOrder.{first_line, ArePlaced, IsPlaced, html_few, ends_before_next, kept_last, indented_fits, fenced_fits, metadata_fits}
+use Rattle.first_pass_leaves.proofs.RawOrder.{html_fits, indented_after_placed, indented_after_few, fenced_after_placed, metadata_after_placed, to_end_placed}
+use Rattle.first_pass_leaves.proofs.RawOrder.{to_blank_placed, Around}
+use Rattle.first_pass_leaves.proofs.FencedLemmas.{fence_plain}
 use Rattle.first_pass_completion.proofs.Closings.{leaf_closes}
 use Rattle.first_pass_scan.specs.LeafLines.{is_rule_byte, in_rule, rule_len}
 use Rattle.first_pass_grammar.specs.CodeBlocks.{metadata_lines, fenced_lines}
 use Rattle.first_pass_grammar.proofs.Order.Orders.{between-any}
-use Rattle.first_pass_text.proofs.HeadingLemmas.{prefix_in}
+use Rattle.first_pass_leaves.proofs.HeadingLemmas.{prefix_in}
 use Rattle.first_pass_kinds.specs.declared.kinds.MarkedLeaf.TheVariants.{FencedCode as MarkedFence, AtxHeading as MarkedHeading, IndentedCode as MarkedCode}
 use Rattle.first_pass_kinds.specs.declared.kinds.MarkedLeaf.TheVariants.{Metadata as MarkedMetadata, HtmlToEnd as MarkedHtml, ThematicBreak as MarkedBreak}
 use Rattle.first_pass_lines.proofs.OptionFacts.{some_if}

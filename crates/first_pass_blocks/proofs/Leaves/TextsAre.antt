@@ -13,7 +13,7 @@ use Rattle.first_pass_order.proofs.HeadLines.{headed_has_line}
 use Rattle.first_pass_grammar.proofs.Names.TextsMore.{cells_more, rows_more}
 use Rattle.first_pass_open.proofs.BlockLemmas.{just_pushed}
 use Rattle.first_pass_open.proofs.PathLemmas.{AreIn, path_of-opened}
-use Rattle.first_pass_text.specs.Appends.{AddsPlainText}
+use Rattle.first_pass_leaves.specs.Appends.{AddsPlainText}
 use Rattle.first_pass_tables.proofs.TableFits.{table_fits}
 
 -- the end of a line with a place

@@ -1,9 +1,9 @@
 //! A clock, a reader and a writer in memory that can fail.
 
-use first_pass_bench::bench::bench_run;
 use first_pass_host::clock::TimeSource;
 use first_pass_host::fault::RunFault;
 use first_pass_outline::run::outline_run;
+use first_pass_program::bench::bench_run;
 use first_pass_program::run::{blocks_run, links_run, tree_run};
 use std::alloc::{AllocError, Global};
 use std::io;

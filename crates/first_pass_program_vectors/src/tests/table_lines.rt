@@ -3,7 +3,7 @@
 use bitflags::Flags;
 use first_pass_items::item::{Alignment, AlignmentIndex, Item, ItemBody, ListFlags};
 use first_pass_names::items::Allocations;
-use first_pass_printed::node::append_node;
+use first_pass_reports::printed::node::append_node;
 use std::alloc::{AllocError, Global};
 use std::process::Abort;
 use std::test::Fail;

@@ -1,7 +1,7 @@
 use Rattle.std.proofs.Common.{◌≤◌, ℕ, List, None, IsCharBoundary, refl}
 use Rattle.first_pass_grammar.proofs.Common.{Item, Document, document, IsRawLine, AreInOrder}
 use Rattle.first_pass_blocks.proofs.Common.{range_of, RawKind, Code, Html, extends_none, names_of, PassState}
-use Rattle.first_pass_raw.proofs.RawOrder.{text_line_in_order, html_line_in_order}
+use Rattle.first_pass_leaves.proofs.RawOrder.{text_line_in_order, html_line_in_order}
 use Rattle.first_pass.proofs.CallsNamed.{raw_line_named}
 use Rattle.first_pass.proofs.Closable.{closable_tokens}
 use Rattle.first_pass.proofs.OrderJoin.{state_before, tokens_ordered}

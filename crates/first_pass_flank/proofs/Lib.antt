@@ -1,3 +1,0 @@
-mod AsciiFacts
-pub mod FlankFacts
-pub mod WordFacts

@@ -1,2 +1,0 @@
-pub mod Flank
-pub mod Flanking

@@ -1,4 +1,0 @@
-//! Delimiter runs: whether they can open or close (CommonMark 6.2, GFM 4.10 and 6.5). Unicode punctuation (2.1).
-#![tactic(auto)]
-
-pub mod flank;

@@ -1,6 +1,0 @@
-pub mod Appending
-pub mod Sides
-pub mod Nexts
-pub mod Filling
-pub mod Bodies
-pub mod Reading

@@ -1,9 +1,0 @@
-use Rattle.std.proofs.Common.{subst, sym, option_map}
-use Rattle.first_pass_flat.specs.FlatAttributes.{id_attributes}
-use Rattle.first_pass_flat.specs.Appended.{AppendsAttributes}
-use Rattle.first_pass_flat.proofs.Appending.{attributes_none}
-use Rattle.first_pass_flat.proofs.attributes.NamedAttributes.append_id.Goals as goal
-
-pub returns-in-None : goal.returns-in-None
-returns-in-None c =
-    subst (λ id. AppendsAttributes c.args.self.now c.args.self.now (id_attributes (option_map (λ text. text.now) id))) (sym c.in-None.is) (attributes_none _)

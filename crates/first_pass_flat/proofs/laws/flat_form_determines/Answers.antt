@@ -1,8 +1,0 @@
-use Rattle.first_pass_flat.proofs.Reading.{nodes_determined, tables_determined}
-use Rattle.first_pass_flat.proofs.laws.flat_form_determines.Goals as goal
-
-pub returns-clause-nodes : goal.returns-clause-nodes
-returns-clause-nodes c = nodes_determined
-
-pub returns-clause-tables : goal.returns-clause-tables
-returns-clause-tables c = tables_determined

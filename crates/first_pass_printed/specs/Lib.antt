@@ -1,3 +1,0 @@
-pub mod HeadingValues
-pub mod Printed
-pub mod Visible

@@ -1,8 +1,0 @@
-//! The printed form of a tree: a line for each node and for each link definition.
-#![tactic(auto)]
-
-pub mod heading;
-pub mod links;
-pub mod node;
-pub mod run;
-pub mod table;

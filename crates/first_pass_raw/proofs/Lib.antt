@@ -1,9 +1,0 @@
-pub mod ExtentLemmas
-pub mod FencedLemmas
-pub mod HtmlLemmas
-pub mod IndentedLemmas
-pub mod MetadataLemmas
-pub mod RawLineLemmas
-pub mod RawOrder
-pub mod UnmarkedLines
-pub mod WholeLines

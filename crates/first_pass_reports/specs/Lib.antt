@@ -1,0 +1,6 @@
+pub mod HeadingValues
+pub mod Printed
+pub mod Visible
+pub mod ReferenceLines
+pub mod Pairs
+pub mod References

@@ -1,4 +1,0 @@
-pub mod Appends
-pub mod CutTexts
-pub mod LineBreaks
-pub mod PlainHeadings
