@@ -170,8 +170,8 @@ where
     walk_special_bytes(lut, bytes, ix, &mut callback)
 }
 
-/// Makes the same calls as `iterate_special_bytes`, and returns the same, but borrows the closure. Afterwards the closure
-/// is in the state after exactly these calls. pulldown-cmark has no such function.
+/// Makes the same calls as `iterate_special_bytes`, and returns the same, but borrows the closure. Afterwards the
+/// closure is in the state after exactly these calls. pulldown-cmark has no such function.
 pub fn walk_special_bytes<F, T>(
     lut: &[bool; 256],
     bytes: &[u8],
