@@ -114,8 +114,8 @@ impl<'a> LineStart<'a> {
     }
 
     /// Returns whether no column is owed and the next byte is an ASCII letter or a non-ASCII byte. Then there is no
-    /// white space here, and a block that begins here is a paragraph, unless later lines turn it into a table or a
-    /// setext heading.
+    /// white space here, and a block that begins here is a paragraph, a table, a setext heading or the title of a
+    /// definition list.
     #[inline(always)]
     pub fn is_at_plain(&self) -> bool
         ensures value { result ≡ (self.now.owed == 0 && begins_plain self.now.left) }
