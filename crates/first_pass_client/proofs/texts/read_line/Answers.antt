@@ -48,5 +48,6 @@ returns c =
       near = omega arith;
       chain = subst (λ (t : List ℕ). HoldsChain t state.tree c.args.block next) texts
           (subst (λ (r : PassState). HoldsChain (source_text old) r.tree c.args.block next) (sym is)
-          (given c.in_ok-next.line_break x _ c.in-Some.is (e.block.chain tt h.boundary c.args.block c.requires.to c.requires.near c.requires.chain).broken kind));
+          (given c.in_ok-next.line_break x _ c.in-Some.is
+          (e.block.chain tt h.boundary c.args.block c.requires.to c.requires.near c.requires.chain).broken kind));
     }
