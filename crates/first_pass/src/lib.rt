@@ -29,5 +29,5 @@ pub use first_pass_names::items;
 
 /// The open containers, and how far a line continues them (CommonMark 5).
 pub mod containers {
-    pub use first_pass_open::containers::scan_containers;
+    pub use first_pass_open::prefixes::scan_containers;
 }

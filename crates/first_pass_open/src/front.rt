@@ -8,7 +8,7 @@ ghost use Rattle.first_pass_lines.specs.Places.{line_rest, place_at, IsPlaceOf};
 ghost use Rattle.first_pass_open.specs.Path.{outer, path_in, path_of, definition_at_depth, continued_to, has_quote_after};
 ghost use Rattle.std.specs.Prelude.{◌≡◌, ◌<◌, ◌≤◌, ℕ, drop, length, is_some, Some, None, false, IfSome, IsTrue, IsUtf8, IsCharBoundary};
 
-use crate::containers::{continued_rest, scan_containers};
+use crate::prefixes::{continued_rest, scan_containers};
 use crate::source::Source;
 use first_pass_items::item::{Item, ItemBody};
 use first_pass_items::option_set::Options;

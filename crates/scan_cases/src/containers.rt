@@ -7,7 +7,7 @@ use first_pass_cases::answer::Answer;
 use first_pass_items::item::{CowIndex, Item, ItemBody};
 use first_pass_items::option_set::Options;
 use first_pass_kinds::interrupt::interrupts_by_standard;
-use first_pass_open::containers::scan_containers;
+use first_pass_open::prefixes::scan_containers;
 use first_pass_scan::line_start::LineStart;
 use first_pass_tree::forest::Tree;
 use std::alloc::{AllocError, Global};

@@ -2,7 +2,7 @@ use Rattle.std.proofs.Common.{◌≡◌, ◌+◌, ◌-◌, false, sym, subst, �
 use Rattle.first_pass_open.specs.Path.{has_quote_after}
 use Rattle.first_pass_open.proofs.FrontLemmas.{place_within}
 use Rattle.first_pass_open.proofs.QuoteLemmas.{none_after_more}
-use Rattle.first_pass_open.proofs.containers.nodes_to_quote.Goals as goal
+use Rattle.first_pass_open.proofs.prefixes.nodes_to_quote.Goals as goal
 
 pub index-requires : goal.index-requires
 index-requires c = grind (arith, place_within)

@@ -5,7 +5,7 @@ use Rattle.first_pass_open.proofs.FrontLemmas.{taken_none, in_spine, place_withi
 use Rattle.first_pass_scan.proofs.BlankFacts.{taken_no}
 use Rattle.first_pass_lines.proofs.Columns.{taken-yes}
 use Rattle.first_pass_open.proofs.QuoteLemmas.{rest_passed}
-use Rattle.first_pass_open.proofs.containers.continued_rest.Goals as goal
+use Rattle.first_pass_open.proofs.prefixes.continued_rest.Goals as goal
 
 pub loop-i-init : goal.loop-i-init
 loop-i-init c = grind (arith, taken_none)

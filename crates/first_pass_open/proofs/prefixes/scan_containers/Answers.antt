@@ -4,8 +4,8 @@ use Rattle.first_pass_open.specs.Path.{path_in, outer}
 use Rattle.first_pass_open.proofs.FrontLemmas.{taken_none, in_spine, place_within, node_taken, stops, front_is}
 use Rattle.first_pass_scan.proofs.BlankFacts.{taken_no}
 use Rattle.first_pass_lines.proofs.Columns.{taken-yes}
-use Rattle.first_pass_open.proofs.containers.scan_containers.Goals as goal
-use Rattle.first_pass_open.proofs.containers.scan_containers.Goals.{Then-not-takes_prefix}
+use Rattle.first_pass_open.proofs.prefixes.scan_containers.Goals as goal
+use Rattle.first_pass_open.proofs.prefixes.scan_containers.Goals.{Then-not-takes_prefix}
 
 pub loop-i-init : goal.loop-i-init
 loop-i-init c = taken_none c.args.options c.args.tree.now.nodes c.args.tree.now.spine c.args.line_start.now

@@ -2,7 +2,7 @@ use Rattle.std.proofs.Common.{◌≡◌, Bool, true, false, MatchOption, Option,
 use Rattle.first_pass_lines.specs.Rest.{Rest, after_columns}
 use Rattle.first_pass_grammar.proofs.Common.{past_quote, prefix}
 use Rattle.first_pass_open.proofs.PlainLemmas.{inert_prefix}
-use Rattle.first_pass_open.proofs.containers.scan_quote.Goals as goal
+use Rattle.first_pass_open.proofs.prefixes.scan_quote.Goals as goal
 
 -- a search that found no marker took nothing
 untaken : (o : Option Rest) (found : Bool) (new old : Rest) → found ≡ false
