@@ -10,7 +10,8 @@ use Rattle.first_pass_grammar.proofs.Common.{after, or_shorter, front, Continued
 use Rattle.first_pass_items.specs.Bytes.{tab}
 use Rattle.first_pass_lines.specs.Rest.{columns_of}
 use Rattle.first_pass_scan.specs.Markers.{is_bullet, bullet_marker, listitem, after_marker, content_indent}
-use Rattle.first_pass_scan.proofs.PlainFacts.{isnt, plain_blank}
+use Rattle.first_pass_lines.proofs.LineFacts.{isnt}
+use Rattle.first_pass_scan.proofs.PlainFacts.{plain_blank}
 use Rattle.first_pass_grammar.specs.declared.kind.Container.{Container}
 use Rattle.first_pass_grammar.specs.declared.kind.Container.TheVariants.{BlockQuote, ListItem, FootnoteDefinition, Definition}
 use Rattle.first_pass_grammar.specs.Kinds.{item_interrupts}

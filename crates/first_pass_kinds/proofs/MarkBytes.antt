@@ -10,7 +10,7 @@ use Rattle.first_pass_grammar.proofs.Common.{begins_html_to_end, begins_html_to_
 use Rattle.std.specs.Char.{is_ascii_digit}
 use Rattle.first_pass_items.specs.Bytes.{asterisk, plus_sign, underscore}
 use Rattle.first_pass_lines.specs.Lines.{ends_signs}
-use Rattle.first_pass_scan.proofs.PlainFacts.{isnt}
+use Rattle.first_pass_lines.proofs.LineFacts.{isnt}
 use Rattle.first_pass_scan.specs.Markers.{listitem}
 use Rattle.first_pass_scan.specs.Metadata.{metadata_byte}
 use Rattle.first_pass_kinds.specs.Marks.{cannot_interrupt_by_standard, begins_no_interruption_by_standard}

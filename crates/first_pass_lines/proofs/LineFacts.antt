@@ -6,12 +6,16 @@ use Rattle.std.specs.List.{prefix_len, concat, list_all}
 use Rattle.std.proofs.lemmas.List.{append_cancel_left, at_drop_all}
 use Rattle.std.proofs.Math.Seq.{take-append_seam}
 use Rattle.std.proofs.lemmas.Grind.{common_steps}
-use Rattle.std.proofs.lemmas.Bool.{cases_lt}
+use Rattle.std.proofs.lemmas.Bool.{cases_eq, cases_lt}
 use Rattle.std.proofs.lemmas.List.Elements.{All-nil, All-cons}
 use Rattle.std.proofs.lemmas.Bool.Decides.{nat_tests}
 use Rattle.first_pass_items.specs.Bytes.{line_feed, carriage_return}
 use Rattle.first_pass_lines.specs.Lines.{begins, ends, ends_line, is_white, is_content, eol_len, blank_len, line_len, IsLineEnd, IsLine}
 use Rattle.first_pass_lines.specs.Places.{Place, line_place, IsLinePlace, lines_after, lines_at, line_of, IsDivision}
+
+-- a byte that passes a test differs from a byte that fails it
+pub isnt : (test : ℕ → Bool) (b c : ℕ) → test b ≡ true → test c ≡ false → b == c ≡ false
+isnt test b c h k = grind (arith, cases_eq)
 
 -- the last byte, if there is one
 pub ends-last : (c : ℕ) (bs : List ℕ) → 0 < length bs → ends c bs ≡ (slice_index bs (length bs - 1) == c)

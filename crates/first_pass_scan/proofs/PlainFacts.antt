@@ -1,7 +1,7 @@
 -- With a plain byte no line ending, marker, thematic break, ATX heading or code fence begins. With an inert byte no
 -- column, block quote or list item begins.
-use Rattle.std.proofs.Common.{◌≡◌, ℕ, ◌==◌, Bool, true, false, true≢false, List, [], ◌∷◌, None, refl, sym, arith}
-use Rattle.std.proofs.lemmas.Bool.{cases_eq, or_parts, not-true, cond_both}
+use Rattle.std.proofs.Common.{◌≡◌, ℕ, true, false, true≢false, List, [], ◌∷◌, None, refl, sym, arith}
+use Rattle.std.proofs.lemmas.Bool.{or_parts, not-true, cond_both}
 use Rattle.std.proofs.lemmas.Bool.Decides.{nat_tests}
 use Rattle.std.specs.Char.{is_ascii_digit}
 use Rattle.first_pass_items.specs.Bytes.{tab, line_feed, carriage_return, space, asterisk, hyphen, greater_than, underscore, backquote, tilde}
@@ -10,11 +10,8 @@ use Rattle.first_pass_lines.specs.Lines.{is_white, begins, eol_len, blank_len, a
 use Rattle.first_pass_scan.specs.LeafLines.{hrule_len, code_fence}
 use Rattle.first_pass_scan.specs.Markers.{content_indent, item_by, list_marker, listitem, item_of}
 use Rattle.first_pass_lines.proofs.Columns.{after-none}
+use Rattle.first_pass_lines.proofs.LineFacts.{isnt}
 use Rattle.first_pass_lines.specs.Plain.{is_plain, begins_plain, is_inert, begins_inert}
-
--- a byte that passes a test differs from a byte that fails it
-pub isnt : (test : ℕ → Bool) (b c : ℕ) → test b ≡ true → test c ≡ false → b == c ≡ false
-isnt test b c h k = grind (arith, cases_eq)
 
 -- a plain byte is inert
 plain_inert : (b : ℕ) → is_plain b ≡ true → is_inert b ≡ true

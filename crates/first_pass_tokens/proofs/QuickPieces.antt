@@ -11,7 +11,7 @@ use Rattle.first_pass_tokens.specs.declared.pieces.Piece.{Piece}
 use Rattle.first_pass_tokens.specs.declared.pieces.TokenStart.TheVariants.{Ready}
 use Rattle.first_pass_tokens.specs.Pieces.{Inline, is_delimiter, delimiter_piece, special_found, special_piece, backslash_piece, backslash_piece_in}
 use Rattle.first_pass_tokens.specs.Pieces.{backquote_piece, bracket_piece, dot_piece, dash_found, dash_piece, run_at, is_quote, is_bracket_at, is_quick_at, IsReadyAt}
-use Rattle.first_pass_walk.proofs.WalkFacts.{isnt}
+use Rattle.first_pass_lines.proofs.LineFacts.{isnt}
 use Rattle.first_pass_tokens.proofs.PieceFacts.{run_some, run_same}
 
 pub less_ready : (z : Inline) (at : ℕ) → slice_index z.text at ≡ less_than → (slice_index z.text (at + 1) == backslash) ≡ false
