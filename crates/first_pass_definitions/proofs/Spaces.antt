@@ -2,20 +2,14 @@
 use Rattle.std.proofs.Common.{◌≡◌, inl, inr, ℕ, ◌+◌, Bool, true, false, List, length, drop, Option, Some, None, IsUtf8, IsCharBoundary, refl, sym, ap, subst}
 use Rattle.std.proofs.Common.{◌∙◌, arith, if◌then◌else◌, option_map, option_and_then, drop-drop, ◌-◌, ◌<◌, ◌≤◌, ◌==◌, ◌∷◌, Result, Ok, Err, IfOk, [], IfSome}
 use Rattle.std.proofs.Common.{length-drop, eqb-true, get_or-drop}
-use Rattle.first_pass_grammar.proofs.Common.{prefix_len, cases_lt, drop_all, same_Some, is_white, eol_len, at_line_end, Rest, line_rest, line_place, place_at}
-use Rattle.first_pass_grammar.proofs.Common.{IsPlaceOf, line_len-eol, line_is_place, white_keeps, line_end_boundary, Context, crossed, prefix_crossed}
+use Rattle.first_pass_grammar.proofs.Common.{prefix_len, cases_lt, drop_all, same_Some, is_white, eol_len, at_line_end, Rest, line_rest, place_at}
+use Rattle.first_pass_grammar.proofs.Common.{IsPlaceOf, line_len-eol, line_end_boundary, Context, crossed, prefix_crossed}
 use Rattle.first_pass_grammar.proofs.Common.{space_at, AllocError, cases_Bool, nat_tests, line_feed, begins, blank_len}
 use Rattle.first_pass_grammar.specs.Definitions.{space_beyond, space_after}
 use Rattle.first_pass_links.proofs.Labels.{place_past}
 use Rattle.first_pass_kinds.specs.Rests.{IsRestOf}
 
--- A character begins after white space, and after a line ending.
-pub white_past : (text : List ℕ) (s : ℕ) → IsUtf8 text → IsCharBoundary text s → IsCharBoundary text (s + prefix_len is_white (drop s text))
-white_past text s u b =
-    let p = white_keeps text (line_place s (drop s text)) u (line_is_place text s b) in
-    let e : s + (0 + prefix_len is_white (drop s text)) ≡ s + prefix_len is_white (drop s text) = omega arith in
-    subst (IsCharBoundary text) e p.boundary
-
+-- A character begins after a line ending.
 pub eol_after : (text : List ℕ) (s e : ℕ) → IsUtf8 text → IsCharBoundary text s → eol_len (drop s text) ≡ Some e → IsCharBoundary text (s + e)
 eol_after text s e u b h = grind (arith, cases_lt, line_len-eol, line_end_boundary, same_Some, drop_all)
 

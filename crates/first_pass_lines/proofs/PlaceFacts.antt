@@ -107,6 +107,12 @@ prefix_keeps test ascii text p u i = prefix_by test ascii text p (prefix_len tes
 pub white_keeps : (text : List ℕ) (p : Place) → IsUtf8 text → IsPlaceOf text p → IsPlaceOf text (moved_bytes (prefix_len is_white p.rest.left) p)
 white_keeps text p u i = prefix_keeps is_white (λ b h. grind (arith, nat_tests, h)) text p u i
 
+-- White space after a character boundary ends at one.
+pub white_boundary : (text : List ℕ) (at : ℕ) → IsUtf8 text → IsCharBoundary text at → IsCharBoundary text (at + prefix_len is_white (drop at text))
+white_boundary text at u b =
+    let e : at + (0 + prefix_len is_white (drop at text)) ≡ at + prefix_len is_white (drop at text) = omega arith in
+    subst (IsCharBoundary text) e (white_keeps text (line_place at (drop at text)) u (line_is_place text at b)).boundary
+
 pub signs_keep : (text : List ℕ) (p : Place) → IsUtf8 text → IsPlaceOf text p → IsPlaceOf text (moved_bytes (prefix_len is_number_sign p.rest.left) p)
 signs_keep text p u i = prefix_keeps is_number_sign (λ b h. grind (arith, nat_tests, h)) text p u i
 

@@ -6,10 +6,10 @@ use Rattle.first_pass_grammar.proofs.Common.{prefix_len, suffix_len, Range, cond
 use Rattle.first_pass_grammar.proofs.Common.{All-nil, prefix_len_stops, suffix_len-le-length, IsCharBoundary-after_ascii}
 use Rattle.first_pass_grammar.proofs.Common.{IsCharBoundary-before_ascii, IsCharBoundary-end, left_bracket, circumflex, left_brace, right_brace, ascii_end}
 use Rattle.first_pass_grammar.proofs.Common.{CowIndex, Item, ItemBody, FencedCodeBlock, FootnoteDefinition, is_white, is_white_or_line_end, begins, line_len}
-use Rattle.first_pass_grammar.proofs.Common.{line_place, line_len-fits, line_is_place, white_keeps, run_len, code_fence, begins_footnote_mark, first_byte}
+use Rattle.first_pass_grammar.proofs.Common.{line_place, line_len-fits, line_is_place, run_len, code_fence, begins_footnote_mark, first_byte}
 use Rattle.first_pass_grammar.proofs.Common.{is_bracket, label_len, trimmed, info_string}
 use Rattle.std.proofs.lemmas.Bool.{not-false}
-use Rattle.first_pass_lines.proofs.PlaceFacts.{prefix_keeps}
+use Rattle.first_pass_lines.proofs.PlaceFacts.{prefix_keeps, white_boundary}
 use Rattle.first_pass_links.proofs.Destinations.{StopsAt, first-drop, upto_stops}
 use Rattle.first_pass_places.specs.AttributeBlockPlaces.{attribute_block_range, block_range, upto_last}
 use Rattle.first_pass_places.specs.FootnoteLabels.{label_range}
@@ -56,12 +56,6 @@ fence_between text start u within small =
     let b : IsCharBoundary text start = (within, λ less big. omega (arith, small, big)) in
     subst (IsCharBoundary text) e (prefix_keeps (λ k. k == c) ascii text (line_place start (drop start text)) u (line_is_place text start b)).boundary
 
--- the white space after it
-white_between : (text : List ℕ) (at : ℕ) → IsUtf8 text → IsCharBoundary text at → IsCharBoundary text (at + prefix_len is_white (drop at text))
-white_between text at u b =
-    let e : at + (0 + prefix_len is_white (drop at text)) ≡ at + prefix_len is_white (drop at text) = omega arith in
-    subst (IsCharBoundary text) e (white_keeps text (line_place at (drop at text)) u (line_is_place text at b)).boundary
-
 -- the end of a line without the white space there
 trimmed_between : (text : List ℕ) (at : ℕ) → IsUtf8 text → IsCharBoundary text at
     → IsCharBoundary text (at + length (trimmed (take (line_len (drop at text)) (drop at text))))
@@ -80,7 +74,7 @@ unfolding info_range info_string
 info_between text start u within small =
     let at : ℕ = fence_end text start in
     let white : ℕ = prefix_len is_white (drop at text) in
-    let first : IsCharBoundary text (at + white) = white_between text at u (fence_between text start u within small) in
+    let first : IsCharBoundary text (at + white) = white_boundary text at u (fence_between text start u within small) in
     let same : drop (at + white) text ≡ drop white (drop at text) = sym (drop-drop white at text) in
     let last = trimmed_between text (at + white) u first in
     (first, subst (λ (bs : List ℕ). IsCharBoundary text (at + white + length (trimmed (take (line_len bs) bs)))) same last)

@@ -1,10 +1,11 @@
 -- The cells of a row, and the row itself, are in order between the start and the end of the row.
 use Rattle.std.proofs.Common.{◌≡◌, inl, ℕ, zero, suc, ◌+◌, ◌-◌, ◌*◌, ◌<◌, ◌≤◌, ◌==◌, Bool, true, false, List, [], ◌∷◌, ◌++◌, length, take, drop, replicate}
 use Rattle.std.proofs.Common.{slice_index, None, IsUtf8, IsCharBoundary, refl, sym, ap, subst, ◌∙◌, arith, eqb-true, append-nil}
-use Rattle.first_pass_grammar.proofs.Common.{prefix_len, IsCharBoundary-after_ascii, pipe, Item, ItemBody, TableCell, at_depth, block_of, is_white}
-use Rattle.first_pass_grammar.proofs.Common.{at_line_end, line_place, line_is_place, white_keeps, MathBraces, Spot, IsCell, leaves, cell_ends, order_from}
+use Rattle.first_pass_grammar.proofs.Common.{IsCharBoundary-after_ascii, pipe, Item, ItemBody, TableCell, at_depth, block_of}
+use Rattle.first_pass_grammar.proofs.Common.{at_line_end, line_place, line_is_place, MathBraces, Spot, IsCell, leaves, cell_ends, order_from}
 use Rattle.first_pass_grammar.proofs.Common.{cell_end_place, counted_nodes, Document, Ranged, extent_of, extents, Siblings, Empty, laid, IsBetween, Elsewhere}
 use Rattle.first_pass_grammar.proofs.Common.{below, Fits, cell_start, cell_text, cell_block, AreCells, inserted, side_by_side, row_block, Within, FitsBetween}
+use Rattle.first_pass_lines.proofs.PlaceFacts.{white_boundary}
 use Rattle.first_pass_tokens.proofs.BytesLemmas.{few_in_cell}
 use Rattle.first_pass_tokens.proofs.OrderLemmas.{cell_in_order}
 use Rattle.first_pass_grammar.specs.Order.{Node}
@@ -90,11 +91,6 @@ start_boundary text at true here utf8 boundary =
     let byte : slice_index text at ≡ pipe = eqb-true (slice_index text at) pipe here in
     rw here (IsCharBoundary-after_ascii text at utf8 (pipe_inside text at here) (omega arith))
 start_boundary text at false here utf8 boundary = rw here boundary
-
-white_boundary : (text : List ℕ) (at : ℕ) → IsUtf8 text → IsCharBoundary text at → IsCharBoundary text (at + prefix_len is_white (drop at text))
-white_boundary text at utf8 boundary =
-    let place : at + (0 + prefix_len is_white (drop at text)) ≡ at + prefix_len is_white (drop at text) = omega arith in
-    subst (IsCharBoundary text) place (white_keeps text (line_place at (drop at text)) utf8 (line_is_place text at boundary)).boundary
 
 start_after : (text : List ℕ) (at : ℕ) (t : Bool) → (slice_index text at == pipe) ≡ t → at ≤ cell_start text at
 start_after text at t here = grind arith

@@ -2,7 +2,8 @@ use Rattle.std.proofs.Common.{◌≡◌, ℕ, ◌+◌, true, false, List, drop, 
 use Rattle.first_pass_grammar.proofs.Common.{prefix_len, is_white, eol_len, at_line_end}
 use Rattle.first_pass_links.proofs.Parts.{of_text}
 use Rattle.first_pass_open.specs.Path.{context_of}
-use Rattle.first_pass_definitions.proofs.Spaces.{white_past, eol_after, space_plain, space_stops, crossed_space, space_over}
+use Rattle.first_pass_lines.proofs.PlaceFacts.{white_boundary}
+use Rattle.first_pass_definitions.proofs.Spaces.{eol_after, space_plain, space_stops, crossed_space, space_over}
 use Rattle.first_pass_definitions.proofs.space.scan_refdef_space.Goals as goal
 use Rattle.first_pass_definitions.proofs.space.scan_refdef_space.Goals.{After-scan_eol, After-is_some}
 
@@ -20,7 +21,7 @@ module _ (g : After-scan_eol) where
   eol_is = of_text eol_len _ g.scan_eol.ensures.value g.rest_of-2.ensures.value g.as_bytes-bytes.ensures.value
 
   white_place : IsCharBoundary text (g.args.start + g.scan_whitespace_no_nl.result)
-  white_place = subst (λ n. IsCharBoundary text (g.args.start + n)) (sym white_is) (white_past text g.args.start is_text g.requires)
+  white_place = subst (λ n. IsCharBoundary text (g.args.start + n)) (sym white_is) (white_boundary text g.args.start is_text g.requires)
 
 pub returns-in_default-clause-value : goal.returns-in_default-clause-value
 returns-in_default-clause-value c =
@@ -81,4 +82,4 @@ returns-clause-place c =
     let at = (goal.at.returns-clause-place c).After-scan_eol in
     let last = (goal.at.returns-clause-place c).After-is_some in
     rw (c.bytes_scanned.ensures, past_is last)
-    (white_past c.args.source.now.text.now _ (is_text at) (rw c.in-Some-2.is at c.in_ok-rest.ensures.place).boundary)
+    (white_boundary c.args.source.now.text.now _ (is_text at) (rw c.in-Some-2.is at c.in_ok-rest.ensures.place).boundary)

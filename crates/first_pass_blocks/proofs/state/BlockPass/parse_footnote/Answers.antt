@@ -1,6 +1,6 @@
 use Rattle.std.proofs.Common.{◌≡◌, ℕ, ◌+◌, ◌<◌, drop, Option, IfSome, IsUtf8, IsCharBoundary, ap, subst, ◌∙◌, arith}
 use Rattle.first_pass_grammar.proofs.Common.{prefix_len, CowStr, is_white}
-use Rattle.first_pass_definitions.proofs.Spaces.{white_past}
+use Rattle.first_pass_lines.proofs.PlaceFacts.{white_boundary}
 use Rattle.first_pass_blocks.proofs.state.BlockPass.parse_footnote.Goals as goal
 
 pub returns-clause-within : goal.returns-clause-within
@@ -15,4 +15,4 @@ returns-clause-within c =
     ∙ ap (prefix_len is_white) (c.rest_of-rest.ensures.value ∙ ap (drop e) c.as_bytes.ensures.value) in
     let some = w.0 in
     let same : e + prefix_len is_white (drop e text) ≡ c.args.start + (c.in-Some.size + c.scan_whitespace_no_nl.result) = omega arith in
-    (omega arith, subst (IsCharBoundary text) same (white_past text e u w.1))
+    (omega arith, subst (IsCharBoundary text) same (white_boundary text e u w.1))
