@@ -14,6 +14,7 @@ use Rattle.std.proofs.Math.Seq.{get_or-append_seam}
 use Rattle.first_pass_attributes.specs.AttributeBlocks.{length_before_block, between_braces, inside_block}
 use Rattle.first_pass_attributes.proofs.BlockFacts.{block-found, block-within}
 use Rattle.first_pass_tokens.proofs.ChainLemmas.{chained-current}
+use Rattle.first_pass_tree.proofs.Cuts.{cut-length}
 use Rattle.first_pass_open.proofs.PathLemmas.{get_last}
 use Rattle.first_pass_leaves.specs.CutTexts.{cut_chain}
 
@@ -203,20 +204,11 @@ opens_with options bs block e =
     ap (λ n. get_or bs n 0) is.opens ∙ ap (λ xs. get_or xs (length is.front) 0) is.parts
     ∙ get_or-append_seam is.front left_brace (is.inside ++ right_brace ∷ is.following) 0
 
--- cut tokens are no more than before, whatever is left of each
-fewer_by : (t u v : Bool) (n m k : ℕ × Item) (cs ns : List (ℕ × Item)) → length cs ≤ length ns
-    → length (if t then n ∷ cs else (if u then m ∷ cs else (if v then k ∷ [] else []))) ≤ length (n ∷ ns)
-fewer_by t u v n m k cs ns h = grind (arith, h)
-
-cut_fewer : (e d : ℕ) (nodes : List (ℕ × Item)) → length (cut_tokens e d nodes) ≤ length nodes
-cut_fewer e d [] = omega arith
-cut_fewer e d (n ∷ ns) = grind (arith, fewer_by, cut_fewer e d ns)
-
 -- a tree whose innermost open node's children are cut has no more nodes than before
 pub siblings_fewer : (f : Forest Item) (e : ℕ) → length (cut_siblings f e).nodes ≤ length f.nodes
 siblings_fewer f e =
     let n : ℕ = open_place f.spine + 1 in
-    let more = cut_fewer e (length f.spine + 1) (drop n f.nodes) in
+    let more = cut-length e (length f.spine + 1) (drop n f.nodes) in
     let both = length-append (take n f.nodes) (cut_tokens e (length f.spine + 1) (drop n f.nodes)) in
     let front = length-take n f.nodes in
     let rest = length-drop n f.nodes in

@@ -34,7 +34,7 @@ cut-depths e d (n ∷ ns) =
     by rest false false true h = refl
     by rest false false false h = refl
 
-cut-length : (e d : ℕ) (ns : List (ℕ × Item)) → length (cut_tokens e d ns) ≤ length ns
+pub cut-length : (e d : ℕ) (ns : List (ℕ × Item)) → length (cut_tokens e d ns) ≤ length ns
 cut-length e d ns =
     let n = ap length (cut-depths e d ns) in
     omega (arith, length-take (length (cut_tokens e d ns)) (depths ns), length-map ns (λ n. n.0), length-map (cut_tokens e d ns) (λ n. n.0))
