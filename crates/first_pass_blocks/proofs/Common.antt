@@ -14,7 +14,7 @@ pub use Rattle.first_pass_open.specs.declared.source.Source.{Source}
 pub use Rattle.first_pass_open.specs.Between.{AddsBetween, MarkerBetween, line_end_at}
 pub use Rattle.first_pass_open.specs.OpenBlock.{IsJustPushed, begun_item, closed_by, opened_block}
 pub use Rattle.first_pass_open.specs.Path.{context_of, path_of}
-pub use Rattle.first_pass_open.proofs.PathLemmas.{get_front}
+pub use Rattle.first_pass_grammar.proofs.Names.MoreNames.{get_front}
 pub use Rattle.first_pass_open.proofs.PlaceLemmas.{all_keep, place_end, read_to, text_place}
 pub use Rattle.first_pass_kinds.specs.BlockStart.{marked_kind}
 pub use Rattle.first_pass_kinds.proofs.KindLemmas.{Says, kind_says}

@@ -9,8 +9,10 @@ use Rattle.first_pass_grammar.proofs.Common.{all_taken, unindented, Options, Doc
 use Rattle.first_pass_grammar.proofs.Common.{CowIndex, task_of, task_by, task_after, after_task, node_of, IsOrderedTo}
 use Rattle.first_pass_open.specs.Path.{path_in, path_of, outer}
 use Rattle.first_pass_open.proofs.FrontLemmas.{outer-all}
-use Rattle.first_pass_open.proofs.PathLemmas.{open_are_in, path_in-append, get_front}
-use Rattle.first_pass_open.proofs.PlaceLemmas.{after_keeps, line_start_end, all_keep, task_keeps, option_on, quote_less}
+use Rattle.first_pass_grammar.proofs.Names.MoreNames.{get_front}
+use Rattle.first_pass_grammar.proofs.Sequences.PlacesKept.{quote_less}
+use Rattle.first_pass_open.proofs.PathLemmas.{open_are_in, path_in-append}
+use Rattle.first_pass_open.proofs.PlaceLemmas.{after_keeps, line_start_end, all_keep, task_keeps, option_on}
 use Rattle.first_pass_lists.specs.Closing.{top_body, is_list, list_closed, empty_item_closed, gap_tree, list_finished, blank_read, popped, state_with}
 use Rattle.first_pass_lists.specs.Closing.{is_item, may_begin_definition, empty_item_closed_by, begun, list_continued, definition_begun, footnote_begun}
 use Rattle.first_pass_lists.specs.declared.state.PassState.{PassState}

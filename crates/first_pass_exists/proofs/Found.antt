@@ -1,8 +1,9 @@
 -- Names that extend others are found for texts, info strings, raw lines and other named values.
 use Rattle.std.proofs.Common.{◌≡◌, ℕ, zero, suc, false, List, [], ◌∷◌, ◌++◌, length, slice_get, Option, Some, None, refl}
-use Rattle.first_pass_grammar.proofs.Common.{CowStr, Borrowed, Alignment, AlignmentIndex, CowIndex, HeadingIndex, Item, SynthesizeText, Options, Place}
+use Rattle.first_pass_grammar.proofs.Common.{CowStr, Alignment, AlignmentIndex, CowIndex, HeadingIndex, Item, SynthesizeText, Options, Place}
 use Rattle.first_pass_grammar.proofs.Common.{offset, line_end, unescaped, add_tokens, Names, NamesText, NamesAlignments, NamesAttributes, Extends, Attributes}
 use Rattle.first_pass_grammar.proofs.Common.{document, NamesInfo, NamesLabel, spaces, AreColumns, Ranges, raw_items, AreRawLines}
+use Rattle.first_pass_tokens.proofs.LineFound.{borrowed}
 use Rattle.first_pass_grammar.specs.Names.{with_named, with_alignments, with_heading}
 use Rattle.first_pass_grammar.proofs.Names.MoreNames.{extends_none, extends_both, extends_named, extends_alignments, extends_heading, text_last}
 use Rattle.first_pass_grammar.proofs.Names.MoreNames.{alignments_last, heading_last}
@@ -31,10 +32,7 @@ found_then {names} f g = record {
   holds = λ later e. (f.holds later (extends_both later g.more f.more e g.extends), g.holds later e);
 }
 
--- a borrowed text, with names that include it
-borrowed : List ℕ → CowStr
-borrowed text = Borrowed (record { ref_ptr = (0, 0); now = text })
-
+-- a string, with names that include it
 named : (names : Names) (cow : CowStr) → Found names CowIndex (λ later ix. slice_get later.texts ix.0 ≡ Some cow)
 named names cow =
     let ix : CowIndex = record { 0 = length names.texts } in

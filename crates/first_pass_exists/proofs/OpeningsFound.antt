@@ -1,18 +1,16 @@
 -- Something opens at each place where blocks continue; inside a container less of the text is left.
-use Rattle.std.proofs.Common.{◌≡◌, ℕ, suc, ◌<◌, ◌≤◌, Bool, true, false, List, [], ◌∷◌, length, Option, Some, None, refl, sym, ap, arith}
+use Rattle.std.proofs.Common.{◌≡◌, ℕ, suc, ◌<◌, ◌≤◌, Bool, true, false, List, [], ◌∷◌, length, Option, Some, None, refl, ap, arith}
 use Rattle.std.proofs.Common.{drop, MatchOption, option_and_then, length-drop}
 use Rattle.first_pass_grammar.proofs.Common.{false≢true, and_parts, prefix_len, none-some, cond_some, Item, Options, gfm_footnotes}
 use Rattle.first_pass_grammar.proofs.Common.{left_bracket, circumflex, begins_footnote_mark, head_after, footnote_head, label_at}
 use Rattle.first_pass_grammar.proofs.Common.{footnote_head_at, label_bytes, place_past, past_head, lines_beyond, begins, is_white, Rest}
-use Rattle.first_pass_grammar.proofs.Common.{after_columns, past_quote, Place, offset, start_of, some_if, some_mapped, columns_shorter, Names, Context}
+use Rattle.first_pass_grammar.proofs.Common.{Place, offset, start_of, some_if, columns_shorter, Names, Context}
 use Rattle.first_pass_grammar.proofs.Common.{context, at_rest, prefix, front, footnote_columns, unindented, is_blank_rest, is_ordinary_after_tag, Document}
 use Rattle.first_pass_grammar.proofs.Common.{document, around, leaf_block, FootnoteMarker, Head, opened, Continues, Line, AtPlace, Anything, OnlyALeaf}
 use Rattle.first_pass_grammar.proofs.Common.{TextOf, OnlyMark, Inside, after_marker, OpensNode, next_is_blank, only_task, after_tag, Opens, Level, may_define}
 use Rattle.first_pass_grammar.proofs.Common.{OpensBy, OpensFootnote, task_after, Start, start_at, opening_by, opening_of, OpensLeaf, cond_both}
 use Rattle.first_pass_exists.proofs.Found.{named_label, found_also, found_here}
-use Rattle.first_pass_lines.proofs.PlaceFacts.{quote_shorter}
 use Rattle.first_pass_grammar.specs.declared.kind.Container.{Container}
-use Rattle.first_pass_grammar.specs.declared.kind.Container.TheVariants.{BlockQuote}
 use Rattle.first_pass_grammar.specs.Kinds.{Paragraph}
 use Rattle.first_pass_grammar.specs.Skeleton.{Allowed, OpensIf, footnote_opening, without_indent}
 use Rattle.first_pass_exists.proofs.KindsFound.{IsShorter, reach, Shrinks, Leads, leads_text, leads_block}
@@ -20,23 +18,12 @@ use Rattle.first_pass_grammar.specs.declared.kind.AfterMarker.{AfterMarker}
 use Rattle.first_pass_grammar.specs.declared.kind.AfterMarker.TheVariants.{OnLine, TaskText, LineEnds, OnlyTag}
 use Rattle.first_pass_grammar.proofs.Sequences.OpenerFacts.{start_cases}
 use Rattle.first_pass_exists.proofs.RunsFound.{beyond_shorter}
-use Rattle.first_pass_grammar.proofs.Sequences.PlacesKept.{task_follows, item_shorter, definition_shorter}
+use Rattle.first_pass_grammar.proofs.Sequences.PlacesKept.{task_follows, item_shorter, definition_shorter, quote_prefix_shorter}
 
 -- after a task list item marker, no more of the line is left
 task_shorter : (options : Options) (line : ℕ) (r : Rest) → length (task_after options line r).1.left ≤ length r.left
 task_shorter options line r =
     let (n, left, taken) = task_follows options line r in let same = ap length left in let fewer = length-drop n r.left in omega arith
-
--- inside a block quote, less of the line is left
-quote_shorter_by : (r inside : Rest) → prefix (BlockQuote None) r ≡ Some inside → length inside.left < length r.left
-unfolding prefix
-quote_shorter_by r inside h =
-    let marker = some_mapped (after_columns 1) (past_quote (after_columns 3 r)) inside h in
-    let three = columns_shorter 3 r in
-    let one = columns_shorter 1 marker.0 in
-    let quote = quote_shorter (after_columns 3 r) marker.0 marker.1 in
-    let same : length inside.left ≡ length (after_columns 1 marker.0).left = ap (λ (q : Rest). length q.left) (sym marker.2) in
-    omega arith
 
 -- the rest of the line after a container's marker is shorter
 start_shorter : (options : Options) (may : Bool) (p : Place) (s : Start) → start_at options may p ≡ Some s → length s.rest.left < length p.rest.left
@@ -44,7 +31,7 @@ start_shorter options may p =
     start_cases options may p (λ s. length s.rest.left < length p.rest.left)
     (λ item is. let less = item_shorter p.rest item is in let task = task_shorter options p.line item.1 in omega arith)
     (λ marker none is. definition_shorter p.rest marker is)
-    (λ r none is. quote_shorter_by p.rest r is)
+    (λ r none is. quote_prefix_shorter p.rest r is)
 
 -- after a container's marker
 marker_reach : (blanks : Option ℕ) → reach (after_marker blanks) ≤ 0

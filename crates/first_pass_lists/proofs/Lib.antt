@@ -1,3 +1,4 @@
+pub mod ListKinds
 pub mod MovedLemmas
 pub mod WithinLemmas
 pub mod BlankLemmas

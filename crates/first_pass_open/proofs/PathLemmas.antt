@@ -4,6 +4,7 @@ use Rattle.std.proofs.Common.{if◌then◌else◌, MatchOption, is_some, Some, N
 use Rattle.first_pass_grammar.proofs.Common.{or-true, nat_tests, length-map, Item, TreeIndex, Forest, IsOpenPath, depths, appended, pushed, at_depth}
 use Rattle.first_pass_grammar.proofs.Common.{at_line_end, Rest, column_of_byte, after_columns, after-none, line_rest, chained, leaves}
 use Rattle.first_pass_grammar.proofs.Common.{chained-spine, chained-nodes, has_columns, is_quote, prefix, after, front, Options}
+use Rattle.first_pass_grammar.proofs.Names.MoreNames.{get_front}
 use Rattle.first_pass_grammar.specs.declared.kind.Container.{Container}
 use Rattle.first_pass_grammar.specs.declared.kind.Container.TheVariants.{BlockQuote, ListItem}
 use Rattle.first_pass_open.specs.Path.{container_of, prefix_of, columns_needed, is_quote_node, with_container, path_in, path_of}
@@ -16,11 +17,6 @@ AreIn n (ix ∷ spine) = (ix.0 < n) × AreIn n spine
 pub open_are_in : (ns : List (ℕ × Item)) (spine : List TreeIndex) → IsOpenPath (depths ns) spine → AreIn (length ns) spine
 open_are_in ns [] o = tt
 open_are_in ns (ix ∷ spine) o = (subst (λ n. ix.0 < n) (length-map ns (λ n. n.0)) o.0.within, open_are_in ns spine o.1)
-
-pub get_front : (ns more : List (ℕ × Item)) (i : ℕ) → i < length ns → slice_get (ns ++ more) i ≡ slice_get ns i
-get_front [] more i h = absurd (omega arith)
-get_front (n ∷ ns) more zero h = refl
-get_front (n ∷ ns) more (suc i) h = get_front ns more i (omega arith)
 
 -- More nodes after these do not change the path.
 pub path_in-append : (options : Options) (ns more : List (ℕ × Item)) (spine : List TreeIndex)

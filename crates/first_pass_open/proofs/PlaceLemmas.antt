@@ -1,16 +1,16 @@
 -- What is taken from a line, indentation, prefixes or markers, ends at a place of the text in the same line.
 use Rattle.std.proofs.Common.{◌≡◌, inl, inr, ◌≤◌, ℕ, ◌+◌, ◌<◌, zero, suc, Bool, true, if◌then◌else◌, List, [], ◌∷◌, length, drop, MatchOption, Option}
-use Rattle.std.proofs.Common.{Some, None, IsUtf8, IsCharBoundary, refl, sym, ap, subst, ◌∙◌, arith, option_map}
+use Rattle.std.proofs.Common.{Some, None, IsUtf8, IsCharBoundary, refl, sym, ap, subst, ◌∙◌, arith}
 use Rattle.first_pass_grammar.proofs.Common.{drop_all, cases_lt, cond_some, Item, Options, has, is_task_marker, line_len}
 use Rattle.first_pass_grammar.proofs.Common.{task_of, IsMarked, Rest, next_column, after_columns}
 use Rattle.first_pass_grammar.proofs.Common.{indent, past_quote, Place, line_rest, place_at, offset, line_end, IsPlaceOf, after-more, after-none}
-use Rattle.first_pass_grammar.proofs.Common.{line_is_place, columns_keep, columns_line_end, columns_shorter, has_columns, prefix, after, or_shorter, front}
+use Rattle.first_pass_grammar.proofs.Common.{line_is_place, columns_keep, columns_line_end, has_columns, prefix, after, or_shorter, front}
 use Rattle.first_pass_grammar.proofs.Common.{all_taken, unindented, definition_marker_at, task_by, task_after, some_if, some_mapped, same_Some}
 use Rattle.std.proofs.lemmas.Option.{option_and_then_some}
 use Rattle.first_pass_scan.proofs.MarkerPlaces.{task-marked, marked-keeps, marked-line_end}
 use Rattle.first_pass_lines.proofs.LineFacts.{line_len-none}
 use Rattle.first_pass_lines.proofs.Columns.{all-more}
-use Rattle.first_pass_lines.proofs.PlaceFacts.{place_line_end, quote_keeps, quote_line_end, quote_shorter}
+use Rattle.first_pass_lines.proofs.PlaceFacts.{place_line_end, quote_keeps, quote_line_end}
 use Rattle.first_pass_grammar.specs.declared.kind.Container.{Container}
 use Rattle.first_pass_grammar.specs.declared.kind.Container.TheVariants.{BlockQuote}
 use Rattle.first_pass_grammar.specs.Kinds.{item_at}
@@ -90,17 +90,6 @@ text_place text s path u b =
     let f = front_keeps text s path (line_rest (drop s text)) u (line_is_place text s b) in
     let r : Rest = front path (line_rest (drop s text)) in
     (all_keep text s r u f.0, columns_line_end (indent r) (place_at s r) ∙ f.1 ∙ line_start_end text s)
-
--- A block quote marker takes a byte.
-pub quote_less : (r s : Rest) (o : Option Rest) → past_quote r ≡ o → option_map (after_columns 1) o ≡ Some s → length s.left < length r.left
-quote_less r s o q e =
-    let m = some_mapped (after_columns 1) o s e in
-    omega (arith, ap (λ (z : Rest). length z.left) m.2, columns_shorter 1 m.0, quote_shorter r m.0 (q ∙ m.1))
-
--- The prefix of a block quote takes a byte.
-pub quote_prefix_shorter : (r s : Rest) → prefix (BlockQuote None) r ≡ Some s → length s.left < length r.left
-unfolding prefix
-quote_prefix_shorter r s e = omega (arith, quote_less (after_columns 3 r) s (past_quote (after_columns 3 r)) refl e, columns_shorter 3 r)
 
 -- If a block quote marker was found, this is the place after it, and the number of bytes before it.
 pub quote_taken : (o : Option Rest) (found : Option ℕ) (n at : ℕ) (old new : Rest)

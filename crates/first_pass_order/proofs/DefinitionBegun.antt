@@ -15,7 +15,8 @@ use Rattle.first_pass_lists.specs.Closing.{definitions_opened, definition_begun,
 use Rattle.first_pass_lists.specs.declared.state.PassState.{PassState}
 use Rattle.first_pass_order.specs.Ordered.{top_of, AreNested}
 use Rattle.first_pass_order.proofs.AlikeNodes.{class_of, titled, opened_both, like_kept}
-use Rattle.first_pass_order.proofs.Nests.{nested_before, top_before, IsSettled, begun_settled, like_nested, other_list}
+use Rattle.first_pass_order.proofs.Nests.{nested_before, top_before, IsSettled, begun_settled, like_nested}
+use Rattle.first_pass_lists.proofs.ListKinds.{other_list}
 use Rattle.first_pass_order.proofs.OrderLemmas.{ordered_same, list_extent, extents-changed, top_there}
 use Rattle.first_pass_order.proofs.LeftOrder.{extents_alike, order_kept}
 use Rattle.first_pass_order.proofs.PropertyKept.{body_inside, definition_keeps}

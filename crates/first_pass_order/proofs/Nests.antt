@@ -9,12 +9,14 @@ use Rattle.first_pass_grammar.proofs.Common.{is_task_marker, item_on_top}
 use Rattle.first_pass_items.specs.declared.item.ItemBody.TheVariants.{List as ListBody, ListItem as ListItemBody}
 use Rattle.first_pass_items.specs.declared.item.ItemBody.TheVariants.{FootnoteDefinition as FootnoteDefinitionBody}
 use Rattle.first_pass_open.specs.OpenBlock.{closed_by, with_child}
-use Rattle.first_pass_open.proofs.PathLemmas.{AreIn, get_front}
+use Rattle.first_pass_grammar.proofs.Names.MoreNames.{get_front}
+use Rattle.first_pass_open.proofs.PathLemmas.{AreIn}
 use Rattle.first_pass_lists.specs.Closing.{state_with, with_tree, top_body, is_definition_list, is_list, is_list_of, is_item, is_footnote, popped_at}
 use Rattle.first_pass_lists.specs.Closing.{current_moved, definitions_closed, title_by, possible_title, title_closed, top_end, popped_after, popped}
 use Rattle.first_pass_lists.specs.Closing.{empty_item_closed_by, empty_item_closed, list_closed, footnote_left, gap_marked, list_finished, list_kept, begun}
 use Rattle.first_pass_lists.specs.Closing.{footnote_begun, list_continued, blank_read_by, blank_read}
 use Rattle.first_pass_lists.specs.declared.state.PassState.{PassState}
+use Rattle.first_pass_lists.proofs.ListKinds.{other_list}
 use Rattle.first_pass_lists.proofs.MovedLemmas.{lower_length}
 use Rattle.first_pass_order.proofs.OrderLemmas.{get_mid}
 use Rattle.first_pass_order.proofs.AlikeNodes.{class_of, AreAlike, NoNodes, OneMore, LooksAlike, like_body, like_popped, like_noted, like_kept, like_blank}
@@ -98,9 +100,6 @@ pub definitions_are : (b : Option ItemBody) → is_definition_list b ≡ true
 definitions_are None h = cc
 definitions_are (Some (DefinitionList flags)) h = (refl, refl, refl, refl)
 definitions_are (Some b) h = cc
-
-pub other_list : (b : Option ItemBody) → is_list b ≡ false → is_definition_list b ≡ false
-other_list b none = false_from_ne_true (is_definition_list b) (λ list. true≢false (sym (definitions_are b list).0 ∙ none))
 
 -- an item is neither a list nor a footnote definition, nor a task list item marker
 item_is : (b : Option ItemBody) → is_item b ≡ true → (is_list b ≡ false) × (is_footnote b ≡ false) × IsSomeAnd b (λ c. is_task_marker c ≡ false)

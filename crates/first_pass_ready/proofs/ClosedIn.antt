@@ -10,6 +10,7 @@ use Rattle.first_pass_items.specs.declared.item.ItemBody.TheVariants.{ListItem a
 use Rattle.first_pass_grammar.specs.declared.kind.Container.{Container}
 use Rattle.first_pass_grammar.specs.Before.{definition_may_follow as takes_after}
 use Rattle.first_pass_grammar.specs.Completion.{last_defined}
+use Rattle.first_pass_tokens.proofs.ChainLemmas.{item_modified}
 use Rattle.first_pass_open.specs.OpenBlock.{closed_by}
 use Rattle.first_pass_open.specs.Path.{container_of, container_at, path_of}
 use Rattle.first_pass_lists.specs.Closing.{current_body, top_body, top_end, is_list, is_definition_list, title_by, possible_title, precedes_definition}
@@ -91,9 +92,6 @@ takes_below e place s y top b = grind arith
 pub takes_same : (f : Forest Item) → takes_after (last_in f) ≡ may_begin_definition f
 takes_same f = grind (arith, closed_cases, takes_none, takes_below, body_of)
 
-pub list_class : (b : Option ItemBody) → is_list b ≡ false → is_definition_list b ≡ false
-list_class b h = grind (arith, h)
-
 -- what is last if no definition list is innermost, by the current node and the bodies of nodes
 abbrev placed : Option TreeIndex → (ℕ → Option ItemBody) → Closed
 placed None body = OtherClosed
@@ -167,11 +165,6 @@ container_below options e place s y top frames (BlockQuoteBody kind) is =
 container_below options e place s y top frames (FootnoteDefinitionBody label) is =
     λ plain. item_elsewhere e place top (Some (0, node_of s y (FootnoteDefinitionBody label))) (top_no_definitions options top frames is plain)
 container_below options e place s y top frames b is = tt
-
-item_modified : (nodes : List (ℕ × Item)) (i : ℕ) (g : Item → Item)
-    → option_map (λ n. n.1) (slice_get (modify nodes i g) i) ≡ option_map g (option_map (λ n. n.1) (slice_get nodes i))
-item_modified (n ∷ nodes) (suc i) g = item_modified nodes i g
-item_modified nodes i g = refl
 
 node_in : (options : Options) (o : Option (ℕ × Item)) (c : Container) → option_and_then (container_of options) (option_map (λ n. n.1.body) o) ≡ Some c
     → (x : Item) × (option_map (λ n. n.1) o ≡ Some x) × (container_of options x.body ≡ Some c)

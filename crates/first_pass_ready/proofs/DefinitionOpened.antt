@@ -23,7 +23,7 @@ use Rattle.first_pass_lists.specs.Closing.{with_tree, loosened_at, top_body, top
 use Rattle.first_pass_lists.specs.Closing.{may_begin_definition, loosened_top, definitions_by, definitions_at, definitions_opened, definition_begun}
 use Rattle.first_pass_lists.specs.declared.state.PassState.{PassState}
 use Rattle.first_pass_ready.specs.State.{frame_of, frame_at, AreOpen, closed_in, ReadyAt}
-pub use Rattle.first_pass_ready.proofs.ClosedIn.{list_class}
+use Rattle.first_pass_lists.proofs.ListKinds.{other_list}
 use Rattle.first_pass_ready.proofs.ClosedIn.{level_of, open_level, closed_at_body, closed_definition, end_of_current, title_is, definitions_top}
 use Rattle.first_pass_ready.proofs.ClosedIn.{definition_list_is}
 use Rattle.first_pass_ready.proofs.OpenLemmas.{open_path, open_below, has_frame}
@@ -102,7 +102,7 @@ module _ (d : Document) (defined : Tables) (f : Forest Item) (run : Bool) (w : D
       → Opened (definitions_by f c x.start x.«end» ParagraphBody)
   after_paragraph c x current here body outside =
       let b : body_at f.nodes c.0 ≡ Some ParagraphBody = body_of f c x here ∙ ap (λ z. Some z) body in
-      let closed : closed_in f ≡ ParagraphAt c.0 = closed_at_body f c ParagraphBody (list_class (top_body f) outside) current b in
+      let closed : closed_in f ≡ ParagraphAt c.0 = closed_at_body f c ParagraphBody (other_list (top_body f) outside) current b in
       let below = current_after f c w.forest current w.ready.completes.below in
       let os : List ℕ = map (λ (i : TreeIndex). i.0) f.spine in
       let g : Forest Item = definitions_by f c x.start x.«end» ParagraphBody in

@@ -9,7 +9,8 @@ use Rattle.first_pass_items.specs.declared.item.ItemBody.TheVariants.{List as Li
 use Rattle.first_pass_completion.proofs.FlatBlocks.{NoParagraph}
 use Rattle.first_pass_grammar.proofs.Sequences.Tightening.{modify-append}
 use Rattle.first_pass_open.specs.OpenBlock.{closed_by}
-use Rattle.first_pass_open.proofs.PathLemmas.{AreIn, get_front, open_are_in}
+use Rattle.first_pass_grammar.proofs.Names.MoreNames.{get_front}
+use Rattle.first_pass_open.proofs.PathLemmas.{AreIn, open_are_in}
 use Rattle.first_pass_lists.specs.Closing.{with_tree, loosened_by, top_body, is_definition_list, empty_item_closed}
 use Rattle.first_pass_lists.specs.Closing.{list_finished, possible_title, is_after_definition, definitions_closed, definitions_left, gap_tree, gap_marked}
 use Rattle.first_pass_lists.specs.declared.state.PassState.{PassState}

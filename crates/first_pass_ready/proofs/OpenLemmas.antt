@@ -9,7 +9,7 @@ use Rattle.first_pass_items.specs.declared.item.ItemBody.TheVariants.{FootnoteDe
 use Rattle.first_pass_grammar.specs.declared.kind.Container.{Container}
 use Rattle.first_pass_open.specs.Path.{container_of, with_container, path_in}
 use Rattle.first_pass_ready.specs.State.{list_frame, frame_of, frame_at, AreOpen}
-use Rattle.first_pass_open.proofs.PathLemmas.{get_front}
+use Rattle.first_pass_grammar.proofs.Names.MoreNames.{get_front}
 
 -- a list of either kind has the flags that its frame shows
 listed_by : (of : Bool → Frame) (a b : Bool) (flags : ListFlags) (frame : Frame) → (flags.0 == 1) ≡ a → (flags.0 == 0) ≡ b

@@ -19,7 +19,8 @@ use Rattle.first_pass_lists.specs.declared.state.PassState.{PassState}
 use Rattle.first_pass_open.specs.Path.{container_of, container_at, with_container, path_in, path_of, outer}
 use Rattle.first_pass_ready.specs.State.{closed_in, AreOpen, ReadyAt, ReadyBeforeLine, ReadyInItem, ReadyWith, NoMore, Ready, item_columns}
 use Rattle.first_pass_open.proofs.FrontLemmas.{outer-all}
-use Rattle.first_pass_ready.proofs.ClosedIn.{top_in, title_is, list_class, plain_top}
+use Rattle.first_pass_ready.proofs.ClosedIn.{top_in, title_is, plain_top}
+use Rattle.first_pass_lists.proofs.ListKinds.{other_list}
 use Rattle.first_pass_ready.proofs.ItemBodies.{item_body, item_container, item_own, item_path, after_zero, item_kind}
 use Rattle.first_pass_ready.proofs.PopLemmas.{list_flags_of, list_popped, list_spine, leave_container, PlainList, innermost_of, line_ends, close_list}
 use Rattle.first_pass_ready.proofs.TitlePops.{body-moved, TitledList, close_title, title_closed, definitions_closed_is}
@@ -110,7 +111,7 @@ pub popped_as : (e : ℕ) (r : PassState) (ix : TreeIndex) (rest : List TreeInde
     → is_list (Some b) ≡ false
     → popped e r ≡ record r { tree = closed_by r.tree e (ix ∷ rest); begin_list_item = if is_item (Some b) then None else r.begin_list_item }
 popped_as e r ix rest b spine is h =
-    popped_is e r ix rest spine (no_title_at r.tree ix rest b spine is (list_class (Some b) h)) ∙ ap (popped_by r (closed_by r.tree e (ix ∷ rest)) ix) is
+    popped_is e r ix rest spine (no_title_at r.tree ix rest b spine is (other_list (Some b) h)) ∙ ap (popped_by r (closed_by r.tree e (ix ∷ rest)) ix) is
     ∙ other_by r (closed_by r.tree e (ix ∷ rest)) ix (Some b) h
 
 -- an item or a definition

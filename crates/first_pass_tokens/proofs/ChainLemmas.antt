@@ -96,7 +96,8 @@ modify-modify [] i g h = refl
 modify-modify (n ∷ ns) zero g h = refl
 modify-modify (n ∷ ns) (suc i) g h = ap (λ (ms : List (ℕ × Item)). n ∷ ms) (modify-modify ns i g h)
 
-item_modified : (ns : List (ℕ × Item)) (i : ℕ) (g : Item → Item)
+-- the item of a node after a write to it
+pub item_modified : (ns : List (ℕ × Item)) (i : ℕ) (g : Item → Item)
     → option_map (λ n. n.1) (slice_get (modify ns i g) i) ≡ option_map g (option_map (λ n. n.1) (slice_get ns i))
 item_modified [] i g = refl
 item_modified (n ∷ ns) zero g = refl

@@ -20,7 +20,7 @@ use Rattle.first_pass_tokens.specs.LineTokens.{Spot, spot, content_ends_at, AreP
 use Rattle.first_pass_tokens.specs.LineTokens.{AreLineTokens, IsCell}
 
 -- a borrowed text
-borrowed : List ℕ → CowStr
+unfoldable pub borrowed : List ℕ → CowStr
 borrowed text = Borrowed (record { ref_ptr = (0, 0); now = text })
 
 -- the piece at a place, and texts with those that it names

@@ -26,7 +26,8 @@ use Rattle.first_pass_grammar.proofs.WholeTables.TableMarks.{tokens_show}
 use Rattle.first_pass_grammar.proofs.Sequences.Tightening.{modify-append}
 use Rattle.first_pass_completion.proofs.States.{open_nodes}
 use Rattle.first_pass_open.specs.Path.{path_of, context_of}
-use Rattle.first_pass_open.proofs.PathLemmas.{AreIn, get_front, open_are_in, front-end}
+use Rattle.first_pass_grammar.proofs.Names.MoreNames.{get_front}
+use Rattle.first_pass_open.proofs.PathLemmas.{AreIn, open_are_in, front-end}
 use Rattle.first_pass_lists.specs.Closing.{with_tree, top_body, top_end, is_after_definition, title_begun, is_list, is_definition_list, possible_title}
 use Rattle.first_pass_lists.specs.Closing.{list_finished, blank_read_by, blank_read}
 use Rattle.first_pass_lists.specs.declared.state.PassState.{PassState}

@@ -21,7 +21,7 @@ use Rattle.first_pass_grammar.proofs.Sequences.Finishes.{CompletesAt}
 use Rattle.first_pass_grammar.proofs.Sequences.Tightening.{modify-append}
 use Rattle.first_pass_open.specs.OpenBlock.{with_child}
 use Rattle.first_pass_open.specs.Path.{path_in, path_of, container_of, with_container}
-use Rattle.first_pass_open.proofs.PathLemmas.{get_front}
+use Rattle.first_pass_grammar.proofs.Names.MoreNames.{get_front}
 use Rattle.first_pass_lists.specs.Closing.{top_body, is_list, may_begin_definition, list_continued, list_kept, with_tree, definitions_opened}
 use Rattle.first_pass_lists.specs.Closing.{definition_begun, loosened_at, is_list_of, empty_item_closed_by, empty_item_closed, list_finished, loosened_top}
 use Rattle.first_pass_lists.specs.Closing.{begun, state_with}
@@ -35,7 +35,8 @@ use Rattle.first_pass_ready.proofs.PopLemmas.{ready_as, Innermost, innermost_of}
 use Rattle.first_pass_ready.proofs.EnterLemmas.{path_below}
 use Rattle.first_pass_containers.proofs.OrderSteps.{marked_open}
 use Rattle.first_pass_ready.proofs.BegunLemmas.{depth_of, with_open, top_opened, IsBegun, plain_open, opened_too, HasBegun, begun_ready, opens_start}
-use Rattle.first_pass_ready.proofs.DefinitionOpened.{list_class, definition_is_open}
+use Rattle.first_pass_ready.proofs.DefinitionOpened.{definition_is_open}
+use Rattle.first_pass_lists.proofs.ListKinds.{other_list}
 use Rattle.first_pass_lists.proofs.NoEmptyItem.{item_opened}
 use Rattle.first_pass_lists.specs.declared.list.ListMarker.{ListMarker}
 use Rattle.first_pass_grammar.specs.OpenOrder.{is_in_item}
@@ -116,7 +117,7 @@ ready_marked d defined f (Some x) p blanks lines other top ready =
     let k = completes-mark d (open_nodes defined ready.frames f.nodes os) (closed_in f) x p blanks lines
     (plain_open d.options f ready.frames ready.are_open (top None)) (other x refl) ready.completes in
     let closed : closed_in g ≡ OtherClosed =
-    closed_at_body g (record { 0 = length f.nodes }) x.body (list_class (top_body g) (top (Some x))) refl
+    closed_at_body g (record { 0 = length f.nodes }) x.body (other_list (top_body g) (top (Some x))) refl
     (get_end f.nodes (length f.spine + 1, x) [] (length f.nodes) refl)
     ∙ no_paragraph (length f.nodes) x.body (other x refl) in
     ready_as d defined g false from lines ready.frames OtherClosed closed

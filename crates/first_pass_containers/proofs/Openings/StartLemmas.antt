@@ -16,7 +16,8 @@ use Rattle.first_pass_grammar.specs.declared.kind.AfterMarker.TheVariants.{OnLin
 use Rattle.first_pass_grammar.specs.Openers.{item_head}
 use Rattle.first_pass_grammar.proofs.Sequences.OpenerFacts.{start_cases}
 use Rattle.first_pass_open.specs.declared.source.Source.{Source}
-use Rattle.first_pass_open.proofs.PlaceLemmas.{item_keeps, definition_keeps, markers_keep, mark_is_task, prefix_keeps, quote_prefix_shorter, place_end}
+use Rattle.first_pass_grammar.proofs.Sequences.PlacesKept.{quote_prefix_shorter}
+use Rattle.first_pass_open.proofs.PlaceLemmas.{item_keeps, definition_keeps, markers_keep, mark_is_task, prefix_keeps, place_end}
 use Rattle.first_pass_grammar.proofs.Sequences.PlacesKept.{item_shorter, definition_shorter}
 use Rattle.first_pass_lists.specs.Closing.{top_body, may_begin_definition, with_tree, is_list, list_kept, loosened_top, begun, list_finished, list_continued}
 use Rattle.first_pass_lists.specs.Closing.{definitions_opened, definition_begun, is_list_of, is_after_definition, empty_item_closed, list_closed, gap_tree}
@@ -44,7 +45,7 @@ use Rattle.first_pass_containers.specs.declared.openers.Start.{Start as FoundSta
 use Rattle.first_pass_open.specs.Between.{MarkerBetween}
 use Rattle.first_pass_containers.specs.declared.openers.Opener.{Opener}
 use Rattle.first_pass_containers.specs.declared.openers.Opener.TheVariants.{Quote, Item as ItemOpener, Definition as DefinitionOpener}
-use Rattle.first_pass_ready.proofs.DefinitionOpened.{list_class}
+use Rattle.first_pass_lists.proofs.ListKinds.{other_list}
 
 -- no step
 pub reads_none : (source : Source) (line : ℕ) (r : PassState) (p : Position) → ReadsTo source line r r p p
@@ -349,7 +350,7 @@ unfolding list_finished empty_item_closed
 finishes_none e r h = rw (h.none, h.plain, h.blank) refl
 
 pub not_after_definition : (r : PassState) → FinishesNothing r → is_after_definition r.tree ≡ false
-not_after_definition r h = rw (list_class (top_body r.tree) h.plain) refl
+not_after_definition r h = rw (other_list (top_body r.tree) h.plain) refl
 
 continued_blank : (start byte number : ℕ) (r : PassState) → (list_continued start byte number r).blank ≡ false
 unfolding list_continued

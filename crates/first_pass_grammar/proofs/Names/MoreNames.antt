@@ -44,13 +44,13 @@ extends_texts old texts more =
     record { more_texts = more.0; texts = more.1; more_alignments = []; alignments = rw append-nil; more_headings = []; headings = rw append-nil }
 
 -- an element of a list keeps its place when more come after it
-named_front : {A : Type 0} (xs more : List A) (i : ℕ) → i < length xs → slice_get (xs ++ more) i ≡ slice_get xs i
-named_front [] more i h = absurd (omega arith)
-named_front (x ∷ xs) more zero h = refl
-named_front (x ∷ xs) more (suc i) h = named_front xs more i (omega arith)
+pub get_front : {A : Type 0} (xs more : List A) (i : ℕ) → i < length xs → slice_get (xs ++ more) i ≡ slice_get xs i
+get_front [] more i h = absurd (omega arith)
+get_front (x ∷ xs) more zero h = refl
+get_front (x ∷ xs) more (suc i) h = get_front xs more i (omega arith)
 
-still_there : {A : Type 0} (new old more : List A) (i : ℕ) (x : A) → new ≡ old ++ more → slice_get old i ≡ Some x → slice_get new i ≡ Some x
-still_there new old more i x e h = ap (λ xs. slice_get xs i) e ∙ named_front old more i (slice_get_within old i x h) ∙ h
+pub still_there : {A : Type 0} (new old more : List A) (i : ℕ) (x : A) → new ≡ old ++ more → slice_get old i ≡ Some x → slice_get new i ≡ Some x
+still_there new old more i x e h = ap (λ xs. slice_get xs i) e ∙ get_front old more i (slice_get_within old i x h) ∙ h
 
 -- an index names what it named
 pub still_aligned : (new old : Names) (ix : AlignmentIndex) (alignments : List Alignment) → Extends new old → NamesAlignments old ix alignments
@@ -66,7 +66,7 @@ still_given new old ix attributes e h = absurd h
 -- an index of alignments that names an entry still names the same one
 pub alignments_kept : (new old : Names) (ix : AlignmentIndex) → Extends new old → ix.0 < length old.alignments
     → alignments_named new ix ≡ alignments_named old ix
-alignments_kept new old ix e h = grind (arith, named_front)
+alignments_kept new old ix e h = grind (arith, get_front)
 
 -- The index of a text, of alignments or of attributes that were added at the end names them in all later names.
 pub text_last : (old new more : Names) (ix : CowIndex) (cow : CowStr) → ix.0 ≡ length old.texts → new ≡ with_named old cow

@@ -6,7 +6,9 @@ use Rattle.first_pass_grammar.proofs.Common.{none-some, same_Some, drop-append_s
 use Rattle.first_pass_grammar.proofs.Common.{offset, task_of, IsMarked, item-marked, definition-marked, at_rest, prefix, after, front, taken, all_taken}
 use Rattle.first_pass_grammar.proofs.Common.{unindented, definition_marker_at, code_place, code_by, code_lines, Extent, Verdict, GoesOn, IsLast, Closes}
 use Rattle.first_pass_grammar.proofs.Common.{Stops, extent_by, extent, place_past, task_by, task_after, columns_shorter, is_content, prefix_len-le-length}
+use Rattle.first_pass_grammar.proofs.Common.{past_quote, some_mapped}
 use Rattle.first_pass_items.specs.OptionWords.{tasklists}
+use Rattle.first_pass_lines.proofs.PlaceFacts.{quote_shorter}
 use Rattle.first_pass_scan.proofs.MarkerPlaces.{task-marked}
 use Rattle.first_pass_grammar.specs.declared.kind.Container.{Container}
 use Rattle.first_pass_grammar.specs.declared.kind.Container.TheVariants.{BlockQuote}
@@ -84,6 +86,17 @@ item_shorter r item h = marked_less (indent r) r item.1 (item_marked r item h)
 
 pub definition_shorter : (r : Rest) (definition : ℕ × Rest) → definition_marker_at r ≡ Some definition → length definition.1.left < length r.left
 definition_shorter r definition h = marked_less (indent r) r definition.1 (marked_definition r definition h)
+
+-- A block quote marker takes a byte.
+pub quote_less : (r s : Rest) (o : Option Rest) → past_quote r ≡ o → option_map (after_columns 1) o ≡ Some s → length s.left < length r.left
+quote_less r s o q e =
+    let m = some_mapped (after_columns 1) o s e in
+    omega (arith, ap (λ (z : Rest). length z.left) m.2, columns_shorter 1 m.0, quote_shorter r m.0 (q ∙ m.1))
+
+-- The prefix of a block quote takes a byte.
+pub quote_prefix_shorter : (r s : Rest) → prefix (BlockQuote None) r ≡ Some s → length s.left < length r.left
+unfolding prefix
+quote_prefix_shorter r s e = omega (arith, quote_less (after_columns 3 r) s (past_quote (after_columns 3 r)) refl e, columns_shorter 3 r)
 
 -- a rest follows after indentation and the marker of an item or a definition
 after_marker : (r s : Rest) → IsMarked (all_taken r) s → Follows r s
