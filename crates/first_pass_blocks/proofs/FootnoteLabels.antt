@@ -1,9 +1,11 @@
 -- The table of footnotes has copies of the labels that the nodes name, of each folding the first: so it is at the start,
 -- and so it stays, also with one more footnote definition.
-use Rattle.std.proofs.Common.{◌≡◌, ℕ, zero, suc, ◌<◌, List, [], ◌∷◌, ◌++◌, length, map, slice_get, Some, refl, sym, ap, subst, ◌∙◌, arith}
+use Rattle.std.proofs.Common.{◌≡◌, ℕ, List, [], ◌∷◌, ◌++◌, map, slice_get, Some, refl, sym, ap, subst, ◌∙◌}
 use Rattle.std.specs.List.{AllZip}
-use Rattle.first_pass_grammar.proofs.Common.{CowIndex, CowStr, Item, Names, Extends, map-append, slice_get_within, with_first}
+use Rattle.first_pass_grammar.proofs.Common.{CowIndex, CowStr, Item, Names, Extends, map-append, with_first}
 use Rattle.first_pass_grammar.proofs.Each.EachPair.{both_pairs}
+use Rattle.first_pass_grammar.proofs.Names.MoreNames.{still_there}
+use Rattle.first_pass_labels.proofs.TextOrder.{with_one_more}
 use Rattle.first_pass_labels.specs.LabelTables.{table_of, with_all}
 use Rattle.first_pass_labels.specs.declared.label_table.FootnoteDef.{FootnoteDef}
 use Rattle.first_pass_blocks.proofs.Common.{Allocations, names_of}
@@ -15,17 +17,10 @@ use Rattle.first_pass_blocks.specs.Written.{AreFirstLabels, CopiesText, HasFirst
 abbrev AreCopies : Names → List CowIndex → List CowStr → Type 0
 AreCopies names indices copies = AllZip (CopiesText names) indices copies
 
--- a string keeps its index when more come after it
-text_stays : (texts more : List CowStr) (i : ℕ) → i < length texts → slice_get (texts ++ more) i ≡ slice_get texts i
-text_stays [] more i h = absurd (omega arith)
-text_stays (x ∷ texts) more zero h = refl
-text_stays (x ∷ texts) more (suc i) h = text_stays texts more i (omega arith)
-
 still_copied : (new old : Names) (index : CowIndex) (copy : CowStr) → Extends new old → CopiesText old index copy → CopiesText new index copy
 still_copied new old index copy more h = record {
   text = h.text;
-  named = ap (λ (texts : List CowStr). slice_get texts index.0) more.texts
-      ∙ text_stays old.texts more.more_texts index.0 (slice_get_within old.texts index.0 h.text h.named) ∙ h.named;
+  named = still_there new.texts old.texts more.more_texts index.0 h.text more.texts h.named;
   is_copy = h.is_copy;
 }
 
@@ -46,15 +41,10 @@ labels_stay old new before after more notes same h = record {
   first = same ∙ h.first;
 }
 
-all_after : (es ds fs : List (CowStr × FootnoteDef)) → with_all es (ds ++ fs) ≡ with_all (with_all es ds) fs
-unfolding with_all
-all_after es [] fs = refl
-all_after es (d ∷ ds) fs = all_after (with_first es d.0 d.1) ds fs
-
 one_after : (copies : List CowStr) (copy : CowStr)
     → table_of (map unused (copies ++ copy ∷ [])) ≡ with_first (table_of (map unused copies)) copy (record { use_count = 0 })
 unfolding with_all
-one_after copies copy = ap table_of (map-append unused copies (copy ∷ [])) ∙ all_after [] (map unused copies) (unused copy ∷ [])
+one_after copies copy = ap table_of (map-append unused copies (copy ∷ [])) ∙ with_one_more [] (map unused copies) copy (record { use_count = 0 })
 
 -- one more footnote definition, after the others
 pub labels_more : (old new : Allocations) (before after : List (ℕ × Item)) (index : CowIndex) (label : CowStr) → Extends (names_of new) (names_of old)

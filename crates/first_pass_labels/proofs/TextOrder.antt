@@ -90,8 +90,12 @@ module _ {X : Type 0} where
   pub under_table : (f : List ℕ) (ds : List (CowStr × X)) → defined_under f (table_of ds) ≡ defined_under f ds
   under_table f ds = sym (definition_of f (table_of ds)) ∙ ap (option_map (λ d. d.1)) (entry_of_table f ds) ∙ definition_of f ds
 
-  -- one more definition
+  -- definitions after others; one more definition
+  pub with_more : (es ds more : List (CowStr × X)) → with_all es (ds ++ more) ≡ with_all (with_all es ds) more
+  unfolding with_all
+  with_more es [] more = refl
+  with_more es (d ∷ ds) more = with_more (with_first es d.0 d.1) ds more
+
   pub with_one_more : (es ds : List (CowStr × X)) (l : CowStr) (x : X) → with_all es (ds ++ (l, x) ∷ []) ≡ with_first (with_all es ds) l x
   unfolding with_all
-  with_one_more es [] l x = refl
-  with_one_more es (d ∷ ds) l x = with_one_more (with_first es d.0 d.1) ds l x
+  with_one_more es ds l x = with_more es ds ((l, x) ∷ [])

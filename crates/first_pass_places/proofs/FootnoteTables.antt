@@ -2,20 +2,15 @@
 -- table of footnotes.
 use Rattle.std.proofs.Common.{◌≡◌, ℕ, ◌+◌, ◌<◌, List, [], ◌∷◌, ◌++◌, length, map, take, get_or, refl, sym, ap, subst, ◌∙◌, zero, suc, append_assoc}
 use Rattle.std.proofs.Common.{arith, length-take-le}
-use Rattle.first_pass_grammar.proofs.Common.{map-append, take_more, CowStr, CowIndex, Item, ItemBody, FootnoteDefinition, with_first}
+use Rattle.first_pass_grammar.proofs.Common.{map-append, take_more, CowStr, CowIndex, Item, ItemBody, FootnoteDefinition}
 use Rattle.first_pass_grammar.proofs.Common.{Names, Tables, footnotes_of, Derives, Document, with_labels}
 use Rattle.std.proofs.lemmas.Simd.{map-map}
 use Rattle.first_pass_labels.specs.LabelTables.{table_of, with_all}
 use Rattle.first_pass_labels.proofs.FirstOfEach.{map_put_all}
-use Rattle.first_pass_labels.proofs.TextOrder.{table_is}
+use Rattle.first_pass_labels.proofs.TextOrder.{table_is, with_more}
 use Rattle.first_pass_grammar.proofs.LinkTables.FirstLinks.{put_labels}
 use Rattle.first_pass_places.specs.FootnoteNodes.{label_with_index, labels_from, entry_bytes, AreFirstFootnotes, AddsNode, entry_label}
 use Rattle.first_pass_places.proofs.DerivedNodes.{footnote_in, node_footnotes, labels_named, derived_labels}
-
-pub all_after : {X : Type 0} (es ds fs : List (CowStr × X)) → with_all es (ds ++ fs) ≡ with_all (with_all es ds) fs
-unfolding with_all
-all_after es [] fs = refl
-all_after es (d ∷ ds) fs = all_after (with_first es d.0 d.1) ds fs
 
 labels_more : (names : Names) (index : ℕ) (nodes : List (ℕ × Item)) (n : ℕ × Item)
     → labels_from names index (nodes ++ n ∷ []) ≡ labels_from names index nodes ++ label_with_index names (index + length nodes) n.1.body
@@ -43,7 +38,7 @@ next_node names nodes i d old new within h more =
       labels = map-append entry_bytes h.definitions more.definitions
           ∙ ap (λ l. l ++ map entry_bytes more.definitions) h.labels ∙ ap (λ l. labels_from names 0 before ++ l) more.labels
           ∙ ap (λ k. labels_from names 0 before ++ label_with_index names k n.1.body) size ∙ sym (labels_more names 0 before n);
-      first = more.added ∙ ap (λ l. with_all l more.definitions) h.first ∙ sym (all_after [] h.definitions more.definitions);
+      first = more.added ∙ ap (λ l. with_all l more.definitions) h.first ∙ sym (with_more [] h.definitions more.definitions);
     })
 
 pub no_footnote : (names : Names) (index : ℕ) (body : ItemBody) → ((ix : CowIndex) → body ≡ FootnoteDefinition ix → ⊥) → label_with_index names index body ≡ []
