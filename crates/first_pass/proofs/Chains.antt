@@ -1,14 +1,16 @@
 -- The chain in an open block with text: its tokens, and what a line adds to it.
 use Rattle.std.proofs.Common.{◌≡◌, ℕ, ◌+◌, ◌<◌, ◌≤◌, max, true, false, List, [], ◌∷◌, ◌++◌, append_assoc, length, drop, slice_get}
 use Rattle.std.proofs.Common.{Option, Some, None, IfSome, IsCharBoundary, refl, sym, ap, subst, ◌∙◌, arith, option_map}
-use Rattle.first_pass_grammar.proofs.Common.{drop-append_seam, false≢true, CowStr, MathBraces, Item, ItemBody, TaskListMarker, Text, TreeIndex, Forest}
+use Rattle.first_pass_grammar.proofs.Common.{drop-append_seam, false≢true, CowStr, MathBraces, Item, ItemBody, TaskListMarker, TreeIndex, Forest}
 use Rattle.first_pass_grammar.proofs.Common.{appended}
-use Rattle.first_pass_grammar.proofs.Common.{at_depth, is_escaped, is_text, item_at, AreInOrder, EscapesStand, chained, leaves, chained-nodes, chained-spine}
+use Rattle.first_pass_grammar.proofs.Common.{at_depth, is_escaped, item_at, AreInOrder, EscapesStand, chained, leaves, chained-nodes, chained-spine}
 use Rattle.first_pass_grammar.proofs.Common.{add_tokens, with_tokens, with_tokens-chained, joins_none-fresh, JoinsNone, AppendsLine, line_in_order, order_to}
 use Rattle.first_pass_grammar.proofs.Common.{order_adds, text_end, text_upto, Document, marker_items, extent_of, is_text_block, is_task_marker, IsBetween}
 use Rattle.first_pass_blocks.proofs.Common.{MarkerBetween, get_front}
 use Rattle.first_pass_blocks.proofs.Common.{ordered_appended, ordered_none, PassState}
 use Rattle.first_pass_open.specs.OpenBlock.{IsJustPushed, with_child}
+use Rattle.first_pass_order.proofs.NamedLemmas.{task_is_no_text}
+use Rattle.first_pass_leaves.proofs.OrderParagraph.{break_unescaped}
 use Rattle.first_pass_tokens.specs.LineTokens.{is_break}
 use Rattle.first_pass_tokens.specs.Pieces.{Inline}
 use Rattle.first_pass_tokens.proofs.ChainLemmas.{appended-chained, joins_none-appended}
@@ -147,14 +149,6 @@ chain_holds text f block to h =
           (marked_tokens text (length h.before.spine + 1) h.from h.node.start to h.marker h.chain h.stands h.tokens));
     }
 
-marker_no_text : (body : ItemBody) → is_task_marker body ≡ true → is_text body ≡ false
-marker_no_text (TaskListMarker checked) h = refl
-marker_no_text body h = absurd (false≢true h)
-
-break_plain : (body : ItemBody) → is_break body ≡ true → is_escaped body ≡ false
-break_plain (Text escaped) h = absurd (false≢true h)
-break_plain body h = refl
-
 -- a chain up to a later offset
 later_tokens : (text : List ℕ) (from to later : ℕ) (chain : List Item) → to ≤ later → AreTokensIn text from to chain → AreTokensIn text from later chain
 later_tokens text from to later [] more h = omega arith
@@ -169,7 +163,7 @@ chain_later text f block to later more h =
 marker_apart : (text : List ℕ) (from start : ℕ) (f : Forest Item) (marker : Option Item) → MarkerBetween text from start marker → f.current ≡ None
     → JoinsNone (with_child f marker)
 marker_apart text from start f None stands none = joins_none-fresh f none
-marker_apart text from start f (Some m) stands none = joins_none-appended f m (marker_no_text m.body stands.0)
+marker_apart text from start f (Some m) stands none = joins_none-appended f m (task_is_no_text m.body stands.0)
 
 -- tokens in order between two offsets, before a break that ends at the second, if there is one
 pub record AddsTokens (text : List ℕ) (start to : ℕ) (line_break : Option Item) (tokens : List Item) : Type 0 where
@@ -245,7 +239,7 @@ module _ (text : List ℕ) (old new : Forest Item) (block : TreeIndex) (start to
       let last : AreInOrder text stop to (x ∷ []) = (between.following, between.order, between.starts, between.ends, between.before) in
       chain_of text old (appended new x) block start to h (longer ++ x ∷ [])
       (tokens_in text h.node.start to (longer ++ x ∷ []) (order_append text h.node.start stop to longer (x ∷ []) longer_order last)
-      (escapes_append text h.node.start longer x longer_escapes (break_plain x.body kind)))
+      (escapes_append text h.node.start longer x longer_escapes (break_unescaped x.body kind)))
       (ap (λ (f : Forest Item). appended f x) longer_is ∙ appended-chained h.before (marker_items h.marker ++ longer) x
       ∙ ap (chained h.before) (append_assoc (marker_items h.marker) longer (x ∷ [])))
 

@@ -31,7 +31,8 @@ chain_end_place text from to (x ∷ y ∷ ys) h boundary =
 abbrev ChainStands : List ℕ → ℕ → ℕ → List Item → Type 0
 ChainStands text from to chain = AreInOrder text from to chain × EscapesStand text from chain × HaveBytes chain
 
-break_unescaped : (body : ItemBody) → is_break body ≡ true → is_escaped body ≡ false
+-- a break is no escaped text
+pub break_unescaped : (body : ItemBody) → is_break body ≡ true → is_escaped body ≡ false
 break_unescaped (Text escaped) h = absurd (false≢true h)
 break_unescaped _ h = refl
 
