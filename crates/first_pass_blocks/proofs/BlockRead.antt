@@ -29,7 +29,7 @@ passes_state over line old new p q source same step =
         names = extends_equal _ _ (ap names_of same);
         named = λ h. rw same (step.named (names_of (allocs_of old)) h);
         written = λ h. rw same h;
-        footnotes = labels_stay (allocs_of old) (allocs_of new) (tree_of old).nodes (tree_of new).nodes (extends_equal _ _ (ap names_of same))
+        labels = labels_stay (allocs_of old) (allocs_of new) (tree_of old).nodes (tree_of new).nodes (extends_equal _ _ (ap names_of same))
             step.footnotes (ap footdefs_of same);
         tables = λ h k. rw same (step.tables (names_of (allocs_of old)) k);
       };
@@ -40,7 +40,7 @@ passes_state over line old new p q source same step =
 
 -- what is kept without a step, and in two steps
 pub keeps_none : (pass : BlockPass) → KeepsPass (source_of pass) pass pass
-keeps_none pass = record { source = refl; names = extends_none _; named = λ h. h; written = λ h. h; footnotes = λ h. h; tables = λ h k. k }
+keeps_none pass = record { source = refl; names = extends_none _; named = λ h. h; written = λ h. h; labels = λ h. h; tables = λ h k. k }
 
 keeps_both : (over : Source) (a b c : BlockPass) → KeepsPass over a b → KeepsPass over b c → KeepsPass over a c
 keeps_both over a b c one two = record {
@@ -48,7 +48,7 @@ keeps_both over a b c one two = record {
   names = extends_both (names_of (allocs_of c)) (names_of (allocs_of b)) (names_of (allocs_of a)) two.names one.names;
   named = λ h. two.named (one.named h);
   written = λ h. two.written (one.written h);
-  footnotes = λ h. two.footnotes (one.footnotes h);
+  labels = λ h. two.labels (one.labels h);
   tables = λ h k. two.tables (one.named h) (one.tables h k);
 }
 
@@ -217,7 +217,7 @@ pub record IsReadUpTo (text : List ℕ) (options : Options) (pass : BlockPass) (
   pub order : IsReadFrom options text (state_of pass) ix
   pub named : AreNamed (names_of (allocs_of pass)) (tree_of pass).nodes
   pub written : TablesAreWritten text (allocs_of pass)
-  pub footnotes : HasFirstLabels (allocs_of pass) (tree_of pass).nodes
+  pub labels : HasFirstLabels (allocs_of pass) (tree_of pass).nodes
   pub node_bound : counted_nodes (tree_of pass).nodes ≤ 1 + 4 * ix
 
 read_on : (old new : BlockPass) (far ix next : ℕ) → IsReadUpTo (source_text old) (source_options old) old ix → ReadsBlock old new far (LineAt ix) next
@@ -230,7 +230,7 @@ read_on old new far ix next i e later = record {
   order = e.order i.order;
   named = e.kept.named i.named;
   written = e.kept.written i.written;
-  footnotes = e.kept.footnotes i.footnotes;
+  labels = e.kept.labels i.labels;
   node_bound = (let read = i.node_bound in let grows = e.node_bound in omega arith);
 }
 
@@ -251,8 +251,8 @@ room_made {old = old} {new = new} i same = record {
   order = rw same.state i.order;
   named = rw (same.names, same.state) i.named;
   written = rw (ap (λ (e : Entries). e.links) same.entries, ap (λ (e : Entries). e.footnotes) same.entries) i.written;
-  footnotes = labels_stay (allocs_of old) (allocs_of new) (tree_of old).nodes (tree_of new).nodes (extends_equal _ _ same.names)
-      (ap (λ (r : PassState). footnotes_in r.tree.nodes) same.state) (ap (λ (e : Entries). e.footnotes) same.entries) i.footnotes;
+  labels = labels_stay (allocs_of old) (allocs_of new) (tree_of old).nodes (tree_of new).nodes (extends_equal _ _ same.names)
+      (ap (λ (r : PassState). footnotes_in r.tree.nodes) same.state) (ap (λ (e : Entries). e.footnotes) same.entries) i.labels;
   node_bound = rw same.state i.node_bound;
 }
 

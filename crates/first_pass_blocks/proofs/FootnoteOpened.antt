@@ -149,7 +149,7 @@ module _ (old new : BlockPass) (p q : Place) (at n : ℕ) (head : ℕ × List �
             named = opened_named opened;
             written = footnote_written text (allocs_of old) (allocs_of new) start head opened.text
                 (record { around = context_in old; nested = nested; here = rw mark found.here }) opened.label opened.borrowed opened.tells;
-            footnotes = labels_more (allocs_of old) (allocs_of new) (tree_of old).nodes (tree_of new).nodes opened.index opened.text more_names
+            labels = labels_more (allocs_of old) (allocs_of new) (tree_of old).nodes (tree_of new).nodes opened.index opened.text more_names
                 (ap (λ (r : PassState). footnotes_in r.tree.nodes) opened.opened ∙ note_notes start opened.index (state_of old))
                 (text_last (names_of (allocs_of old)) (names_of (allocs_of new)) (names_of (allocs_of new)) opened.index opened.text opened.last
                 opened.names (extends_none _)) opened.tells;

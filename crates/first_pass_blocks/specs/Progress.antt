@@ -45,7 +45,7 @@ pub record KeepsParts (over : Source) (old new : Parts) : Type 0 where
   pub names : Extends (names_of new.allocs) (names_of old.allocs)
   pub named : AreNamed (names_of old.allocs) old.tree.nodes → AreNamed (names_of new.allocs) new.tree.nodes
   pub written : TablesAreWritten over.text.now old.allocs → TablesAreWritten over.text.now new.allocs
-  pub footnotes : HasFirstLabels old.allocs old.tree.nodes → HasFirstLabels new.allocs new.tree.nodes
+  pub labels : HasFirstLabels old.allocs old.tree.nodes → HasFirstLabels new.allocs new.tree.nodes
   pub tables : AreNamed (names_of old.allocs) old.tree.nodes → HasWholeTables (names_of old.allocs) old.tree → HasWholeTables (names_of new.allocs) new.tree
 
 -- the same for the parts of two passes (this project)

@@ -435,7 +435,7 @@ module _ (old new : BlockPass) (p : Place) (kind : Kind) (next : ℕ) (here : Is
           named = λ h. block_added own before ended (tree_of new) block.items more.names block.tree_is
               (kind_named text options own p kind gap ended (tree_of new) next block) (list_finished_named before p.line r h);
           written = written_stay text (allocs_of old) (allocs_of new) more.entries;
-          footnotes = labels_stay (allocs_of old) (allocs_of new) (tree_of old).nodes (tree_of new).nodes more.names
+          labels = labels_stay (allocs_of old) (allocs_of new) (tree_of old).nodes (tree_of new).nodes more.names
               (block_notes ended (tree_of new) block.items block.tree_is (kind_notes text options own p kind gap ended (tree_of new) next block)
               ∙ list_finished_notes p.line r) (ap (λ (e : Entries). e.footnotes) more.entries);
           tables = λ h k. block_whole own before ended (tree_of new) block.items more.names block.tree_is

@@ -109,7 +109,7 @@ run_line old mid new p line next is_at kind definitions source allocs state =
         names = extends_equal _ _ named;
         named = λ h. rw (following, named) (list_finished_named (names_of (allocs_of old)) q.line r h);
         written = λ h. subst (λ z. TablesAreWritten text z) (sym allocs) (definitions.kept.written h);
-        footnotes = labels_stay (allocs_of old) (allocs_of new) (tree_of old).nodes (tree_of new).nodes (extends_equal _ _ named)
+        labels = labels_stay (allocs_of old) (allocs_of new) (tree_of old).nodes (tree_of new).nodes (extends_equal _ _ named)
             (ap notes following ∙ list_finished_notes q.line r) (ap footdefs_of allocs ∙ definitions.kept.footnotes);
         tables = λ h k. rw (following, named) (list_finished_whole (names_of (allocs_of old)) q.line r is_at.forest k);
       };
@@ -171,7 +171,7 @@ run_text old mid new p at next is_at kind definitions source adds t =
         names = more_named;
         named = (t.kept more_named).0;
         written = λ h. written_stay text (allocs_of mid) (allocs_of new) adds.entries (definitions.kept.written h);
-        footnotes = labels_stay (allocs_of old) (allocs_of new) (tree_of old).nodes (tree_of new).nodes more_named t.footnotes
+        labels = labels_stay (allocs_of old) (allocs_of new) (tree_of old).nodes (tree_of new).nodes more_named t.footnotes
             (ap (λ (e : Entries). e.footnotes) adds.entries ∙ definitions.kept.footnotes);
         tables = (t.kept more_named).1;
       };

@@ -26,7 +26,7 @@ loop-ix-init c = record {
     order = inl c.in_ok-pass.ensures.order;
     named = c.in_ok-pass.ensures.named;
     written = none_written c.args.text.now c.in_ok-pass.pass.allocs c.in_ok-pass.ensures.empty;
-    footnotes = c.in_ok-pass.ensures.labels;
+    labels = c.in_ok-pass.ensures.labels;
     node_bound = (let root = c.in_ok-pass.ensures.root in let most = own_at_most None c.in_ok-pass.pass.state.tree.nodes in omega arith);
   };
   within = c.sample_end-part_end.ensures.within;
@@ -101,7 +101,7 @@ pub returns-clause-labels : goal.returns-clause-labels
 returns-clause-labels c =
     labels_stay c.loop-ix.pass.allocs c.sort_tables.new.self c.loop-ix.pass.state.tree.nodes c.close_containers.new.state.tree.nodes
     (extends_equal _ _ c.sort_tables.ensures.names) c.close_containers.ensures.kept.state.footnotes
-    (ap (λ (e : Entries). e.footnotes) c.sort_tables.ensures.entries) c.loop-ix.invariant.read.footnotes
+    (ap (λ (e : Entries). e.footnotes) c.sort_tables.ensures.entries) c.loop-ix.invariant.read.labels
 
 pub returns-clause-settled : goal.returns-clause-settled
 returns-clause-settled c =

@@ -44,7 +44,7 @@ returns-in-Blank-clause-block c =
         names = extends_none _;
         named = λ h. rw c.read_blank_line.ensures (blank_named (names_of self.allocs) old h);
         written = λ h. h;
-        footnotes = labels_stay self.allocs self.allocs old.tree.nodes c.read_blank_line.new.self.tree.nodes (extends_none _)
+        labels = labels_stay self.allocs self.allocs old.tree.nodes c.read_blank_line.new.self.tree.nodes (extends_none _)
             (ap notes c.read_blank_line.ensures ∙ blank_notes old) refl;
         tables = λ h k. rw c.read_blank_line.ensures (blank_whole (names_of self.allocs) old k);
       };

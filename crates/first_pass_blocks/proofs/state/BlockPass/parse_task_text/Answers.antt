@@ -61,7 +61,7 @@ returns-clause-block c =
         names = e.more.names;
         named = kept.0;
         written = written_stay text self.allocs c.parse_text.new.self.allocs e.more.entries;
-        footnotes = labels_stay self.allocs c.parse_text.new.self.allocs old.tree.nodes tree.nodes e.more.names
+        labels = labels_stay self.allocs c.parse_text.new.self.allocs old.tree.nodes tree.nodes e.more.names
             (text_unnoted (document text options now) old.tree tree (unindented p) (Some c.args.marker) next block i mark)
             (ap (λ (e : Entries). e.footnotes) e.more.entries);
         tables = kept.1;
