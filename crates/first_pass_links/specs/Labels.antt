@@ -133,9 +133,9 @@ abbrev pub IsLabelUnder : (List ℕ → Option ℕ) → Bool → List ℕ → Op
 IsLabelUnder prefix in_table text answer =
     MatchOption (label_at prefix in_table text) (answer ≡ None) (λ label. IsSomeAnd answer (λ found. (found.0 ≡ label.0) × (text_of found.1 ≡ label.1)))
 
--- The result is the label under answers of the handler, which need not be the same for the same bytes. `asked` tells
--- after which line endings the handler was asked, each at most once, and `prefix` gives what it answered there. Each
--- other prefix with these answers gives the same label (this project).
+-- The result is the label under answers that the handler may give, which need not be the same for the same bytes.
+-- `asked` holds at some line endings, and `prefix` gives what the handler may return after each of these. They decide
+-- the label: each other prefix with these answers gives the same one (this project).
 pub record ReadsLabel (text : List ℕ) (in_table : Bool) (post : Bor (List ℕ) → Result (Option ℕ) AllocError → Type 0) (answer : Option (ℕ × CowStr))
     : Type 0 where
   pub asked : ℕ → Bool

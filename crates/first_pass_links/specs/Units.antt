@@ -118,9 +118,9 @@ pub record StopsByError (text : List ℕ) (at : ℕ) (post : Bor (List ℕ) → 
   pub run : (prefix : List ℕ → Option ℕ) → AnswersWith text prefix post → IsWhiteRun prefix text at next characters
   pub stops : ErrsAfter text next post
 
--- A fact on prefixes holds under answers of the handler. `asked` tells after which line endings from one offset up to
--- another it was asked, and `answers` what it answered. The fact holds for each `prefix` with these answers (this
--- project).
+-- A fact on prefixes holds under answers that the handler may give. `asked` holds at some line endings from one offset
+-- up to another, and `answers` has what the handler may return after each of these. The fact holds for each `prefix` with
+-- these answers (this project).
 pub record UnderAnswers (text : List ℕ) (post : Bor (List ℕ) → Result (Option ℕ) AllocError → Type 0) (from upto : ℕ)
     (Fact : (List ℕ → Option ℕ) → Type 0) : Type 0 where
   pub asked : ℕ → Bool

@@ -29,7 +29,7 @@ const MOST_CHARACTERS: usize = 999;
 ///
 /// `linebreak_handler` gets the bytes after each line ending. It returns the length of the next line's prefix, which
 /// is not part of the label, or `None` if the label may not continue there. It need not return the same for the same
-/// bytes: the label is that of the answers that it gave.
+/// bytes: the label is that under some answers that it may give.
 ///
 /// Returns `None` if no unescaped `]` comes before an unescaped `[`, the end, or a line on which the label may not
 /// continue. Also returns `None` if the label has only white space and line endings, or more than 999 characters; the
@@ -252,7 +252,8 @@ where
     requires white { is_white_or_line_end (slice_index bytes.now at) ≡ true }
     ensures some { IfOk result (λ answer. IfSome answer (λ next. (at < next) × IsCharBoundary bytes.now next)) }
     ensures reads { IfOk result (λ answer. IfSome answer (λ next. UnderAnswers bytes.now (F.post linebreak_handler.now)
-        at next (λ prefix. left_at prefix bytes.now at ≡ (at, slice_index bytes.now at) ∷ left_at prefix bytes.now next))) }
+        at next (λ prefix. left_at prefix bytes.now at
+        ≡ (at, slice_index bytes.now at) ∷ left_at prefix bytes.now next))) }
     ensures none { IfOk result (λ answer. answer ≡ None → UnderAnswers bytes.now (F.post linebreak_handler.now)
         at (length bytes.now) (λ prefix. left_at prefix bytes.now at ≡ [])) }
     ensures space { IfOk result (λ answer. IfSome answer (λ next.
