@@ -45,7 +45,7 @@ pub label_asks : (around : Context) (prefix : List ℕ → Option ℕ) (t u : Bo
     → ((at : ℕ) → ErrsAfter bs at post → line_may_head_table around (line_rest (drop (at + 1) bs)) ≡ true)
     → IsRewritten prefix u bs ⊎ (HasNoBracket prefix bs × MeetsTable around bs)
 label_asks around prefix t u bs post k (inl z) f = inl (subst (λ x. IsRewritten prefix x bs) k z)
-label_asks around prefix t u bs post k (inr (n, s)) f = inr (n, (s.0, s.1.within, s.1.line_end, f s.0 s.1))
+label_asks around prefix t u bs post k (inr (n, s)) f = let r = s.errs.1 in inr (n, (s.at, r.within, r.line_end, f s.at s.errs))
 
 -- and that of a footnote
 pub footnote_asks : (around : Context) (prefix : List ℕ → Option ℕ) (t u : Bool) (bs : List ℕ) (post : Bor (List ℕ) → Result (Option ℕ) AllocError → Type 0)
@@ -55,7 +55,10 @@ pub footnote_asks : (around : Context) (prefix : List ℕ → Option ℕ) (t u :
     → (begins_footnote_mark bs ≡ true)
     × (IsRewritten prefix u (drop 2 bs) ⊎ (HasNoBracket prefix (drop 2 bs) × (gfm_footnotes around.options ≡ false) × MeetsTable around (drop 2 bs)))
 footnote_asks around prefix t u bs post k m (inl z) f = (m, inl (subst (λ x. IsRewritten prefix x (drop 2 bs)) k z))
-footnote_asks around prefix t u bs post k m (inr (n, s)) f = let both = f s.0 s.1 in (m, inr (n, both.0, (s.0, s.1.within, s.1.line_end, both.1)))
+footnote_asks around prefix t u bs post k m (inr (n, s)) f =
+    let both = f s.at s.errs in
+    let r = s.errs.1 in
+    (m, inr (n, both.0, (s.at, r.within, r.line_end, both.1)))
 
 -- a place after another
 pub place_from : (text following bs : List ℕ) (start at : ℕ) → IsCharBoundary text start → bs ≡ drop start text → IsCharBoundary bs at → following ≡ drop at bs

@@ -1,12 +1,12 @@
 -- Facts that hold under answers of a handler.
-use Rattle.std.proofs.Common.{◌≡◌, ℕ, ◌+◌, ◌-◌, ◌<◌, ◌≤◌, ◌==◌, nat_lt, Bool, true, false, true≢false, List, length, drop, Option, Some, None, Result, refl}
+use Rattle.std.proofs.Common.{◌≡◌, ℕ, ◌+◌, ◌-◌, ◌<◌, ◌≤◌, ◌==◌, nat_lt, Bool, true, false, true≢false, List, length, drop, Option, Some, None, Result, Ok, refl}
 use Rattle.std.proofs.Common.{sym, ap, subst, ◌∙◌, arith, Bor, eqb-true, length-drop, if◌then◌else◌, MatchOption, IsSomeAnd}
 use Rattle.std.specs.declared.alloc.AllocError.{AllocError}
 use Rattle.std.proofs.lemmas.Bool.{lt-ltb}
 use Rattle.std.proofs.lemmas.Bool.Decides.{nat_tests}
 use Rattle.first_pass_items.specs.declared.cow_str.CowStr.{CowStr}
 use Rattle.first_pass_items.specs.CowText.{text_of}
-use Rattle.first_pass_links.specs.Labels.{AnswersAfter, AnswersWith, IsLabelUnder, ReadsLabel, label_at}
+use Rattle.first_pass_links.specs.Labels.{ReturnsAfter, AnswersWith, CanErr, FailsOnLabel, IsLabelUnder, ReadsLabel, label_at}
 use Rattle.first_pass_links.specs.Units.{UnderAnswers}
 
 -- if the handler answers as a prefix does, the fact holds for this prefix
@@ -14,7 +14,7 @@ pub under_with : {text : List ℕ} {post : Bor (List ℕ) → Result (Option ℕ
     → UnderAnswers text post from upto Fact → (prefix : List ℕ → Option ℕ) → AnswersWith text prefix post → Fact prefix
 under_with u prefix a = u.holds prefix (λ at k.
     let w = u.allowed at k in
-    ap prefix (sym w.past_is) ∙ a w.following (u.answers at) (at + 1) w.boundary w.past_is w.answers)
+    ap prefix (sym w.past_is) ∙ a w.following (u.answers at) (at + 1) w.boundary w.past_is w.returns)
 
 -- a fact that needs no answer
 pub under_none : {text : List ℕ} {post : Bor (List ℕ) → Result (Option ℕ) AllocError → Type 0} {from upto : ℕ} {Fact : (List ℕ → Option ℕ) → Type 0}
@@ -32,13 +32,13 @@ same_true n = grind (arith, nat_tests)
 
 -- a fact that needs one answer
 pub under_one : {text : List ℕ} {post : Bor (List ℕ) → Result (Option ℕ) AllocError → Type 0} {upto : ℕ} {Fact : (List ℕ → Option ℕ) → Type 0}
-    (at : ℕ) (answer : Option ℕ) → at < upto → AnswersAfter text at answer post
+    (at : ℕ) (answer : Option ℕ) → at < upto → ReturnsAfter text at (Ok answer) post
     → ((prefix : List ℕ → Option ℕ) → prefix (drop (at + 1) text) ≡ answer → Fact prefix) → UnderAnswers text post at upto Fact
 under_one {text} {post} at answer before allowed fact = record {
   asked = λ n. n == at;
   answers = λ n. answer;
   between = λ n k. let e = eqb-true n at k in (omega arith, omega arith);
-  allowed = λ n k. subst (λ m. AnswersAfter text m answer post) (sym (eqb-true n at k)) allowed;
+  allowed = λ n k. subst (λ m. ReturnsAfter text m (Ok answer) post) (sym (eqb-true n at k)) allowed;
   holds = λ prefix f. fact prefix (f at (same_true at));
 }
 
@@ -71,7 +71,7 @@ under_both {text} {post} {from} {mid} {upto} u v (before, after) both = record {
   answers = λ at. if nat_lt at mid then u.answers at else v.answers at;
   between = λ at k. either_asked ((from ≤ at) × (at < upto)) (nat_lt at mid) _ _ k (λ b h. let w = u.between at h in (omega arith, omega arith))
       (λ b h. let w = v.between at h in (omega arith, omega arith));
-  allowed = λ at k. either_asked (AnswersAfter text at (if nat_lt at mid then u.answers at else v.answers at) post) (nat_lt at mid) _ _ k
+  allowed = λ at k. either_asked (ReturnsAfter text at (Ok (if nat_lt at mid then u.answers at else v.answers at)) post) (nat_lt at mid) _ _ k
       (λ b h. rw b (u.allowed at h)) (λ b h. rw b (v.allowed at h));
   holds = λ prefix f. both prefix
       (u.holds prefix (λ at h. let b = lt-ltb at mid (u.between at h).1 in
@@ -93,18 +93,36 @@ same_label (Some (n, xs)) None (Some (j, c)) h k = cc
 same_label (Some (n, xs)) (Some (m, ys)) None h k = absurd h
 same_label (Some (n, xs)) (Some (m, ys)) (Some (j, c)) h k = rw (← h.0, ← k.0, ← h.1, ← k.1) refl
 
+-- the length of the bytes after a line ending tells its offset, so a prefix can give the answer there
+answers_at : {text : List ℕ} {post : Bor (List ℕ) → Result (Option ℕ) AllocError → Type 0} {from : ℕ} {Fact : (List ℕ → Option ℕ) → Type 0}
+    (u : UnderAnswers text post from (length text) Fact) (at : ℕ) → u.asked at ≡ true
+    → u.answers (length text - (length (drop (at + 1) text) + 1)) ≡ u.answers at
+answers_at {text} u at k = ap u.answers (let w = (u.between at k).1 in let d = length-drop (at + 1) text in omega arith)
+
 -- the label under answers of the handler
 pub under_read : {text : List ℕ} {post : Bor (List ℕ) → Result (Option ℕ) AllocError → Type 0} {in_table : Bool} {answer : Option (ℕ × CowStr)}
     → UnderAnswers text post 0 (length text) (λ prefix. IsLabelUnder prefix in_table text answer) → ReadsLabel text in_table post answer
 under_read {text} {post} {in_table} {answer} u =
     let prefix : List ℕ → Option ℕ = λ bs. u.answers (length text - (length bs + 1)) in
-    let there : (at : ℕ) → u.asked at ≡ true → prefix (drop (at + 1) text) ≡ u.answers at = λ at k.
-    ap u.answers (let w = (u.between at k).1 in let d = length-drop (at + 1) text in omega arith) in
+    let there : (at : ℕ) → u.asked at ≡ true → prefix (drop (at + 1) text) ≡ u.answers at = λ at k. answers_at u at k in
     let label = u.holds prefix there in
     record {
       asked = u.asked;
       prefix = prefix;
-      allowed = λ at k. subst (λ a. AnswersAfter text at a post) (sym (there at k)) (u.allowed at k);
+      allowed = λ at k. subst (λ a. ReturnsAfter text at (Ok a) post) (sym (there at k)) (u.allowed at k);
       label = label;
       enough = λ other f. same_label _ _ answer (u.holds other (λ at k. f at k ∙ there at k)) label;
+    }
+
+-- reading may fail under answers of the handler
+pub under_fails : {text : List ℕ} {post : Bor (List ℕ) → Result (Option ℕ) AllocError → Type 0} {in_table : Bool}
+    → UnderAnswers text post 0 (length text) (λ prefix. CanErr prefix in_table text post) → FailsOnLabel text in_table post
+under_fails {text} {post} {in_table} u =
+    let prefix : List ℕ → Option ℕ = λ bs. u.answers (length text - (length bs + 1)) in
+    let there : (at : ℕ) → u.asked at ≡ true → prefix (drop (at + 1) text) ≡ u.answers at = λ at k. answers_at u at k in
+    record {
+      asked = u.asked;
+      prefix = prefix;
+      allowed = λ at k. subst (λ a. ReturnsAfter text at (Ok a) post) (sym (there at k)) (u.allowed at k);
+      fails = λ other f. u.holds other (λ at k. f at k ∙ there at k);
     }

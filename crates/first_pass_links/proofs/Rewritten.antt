@@ -9,8 +9,8 @@ use Rattle.first_pass_items.specs.Bytes.{space, backslash}
 use Rattle.first_pass_lines.specs.Lines.{ends_line, is_white_or_line_end}
 use Rattle.first_pass_links.specs.Escapes.{without_pipe_escapes}
 use Rattle.first_pass_links.specs.declared.label.Unit.{Unit}
-use Rattle.first_pass_links.specs.Labels.{is_bracket, AnswersWith, CanErr, IsRewritten, before_bracket, bytes_of, label_len, single_spaced, as_read}
-use Rattle.first_pass_links.specs.Units.{read_of, left_at, Reads, StopsByError, weight}
+use Rattle.first_pass_links.specs.Labels.{is_bracket, CanErr, IsRewritten, before_bracket, bytes_of, label_len, single_spaced, as_read}
+use Rattle.first_pass_links.specs.Units.{read_of, left_at, Reads, IsWhiteRun, StopsByError, weight}
 use Rattle.first_pass_links.proofs.Parts.{weight-append, weight-length, weight-nil, weight-space, weight-other}
 use Rattle.std.proofs.lemmas.Bool.Decides.{nat_tests}
 use Rattle.first_pass_links.proofs.Destinations.{upto-nil, upto-byte}
@@ -128,12 +128,12 @@ track_written h t text at k same tracked n = λ e.
 
 -- the handler fails: no bracket comes before, or the line ending is part of the label
 stop_by : (o : Option ℕ) (h : List ℕ → Option ℕ) (t : Bool) (text : List ℕ) (at : ℕ) (k : Known) (post : Bor (List ℕ) → Result (Option ℕ) AllocError → Type 0)
-    → IsRead h t text 0 at k → (w : StopsByError text at post) → AnswersWith text h post → h (drop (w.next + 1) text) ≡ o → CanErr h t text post
-stop_by None h t text at k post read w a f =
-    let r = w.run h a in
+    → IsRead h t text 0 at k → (w : StopsByError text at post) → IsWhiteRun h text at w.next w.characters → h (drop (w.next + 1) text) ≡ o
+    → CanErr h t text post
+stop_by None h t text at k post read w r f =
     let R = bytes_of r.run in
     let X : all_from h text at ≡ R =
-    ap bytes_of (r.joins ∙ ap (λ cs. r.run ++ cs) (left-stop h text w.next w.stops.within w.stops.line_end f) ∙ append-nil r.run) in
+    ap bytes_of (r.joins ∙ ap (λ cs. r.run ++ cs) (left-stop h text w.next w.stops.1.within w.stops.1.line_end f) ∙ append-nil r.run) in
     let u = ap label_len (X ∙ sym (append-nil R)) ∙ (run_facts R [] r.white).0 in
     let none : label_len [] ≡ 0 = upto-nil is_bracket in
     let whole = read_whole h t text 0 at k read in
@@ -141,17 +141,24 @@ stop_by None h t text at k post read w a f =
     let q = ap length whole ∙ length-append (bytes_of read.run) (all_from h text at) in
     let l = bytes-length read.run in
     let m = ap length X in
-    inr (omega arith, (w.next, w.stops))
-stop_by (Some m) h t text at k post read w a f =
-    let r = w.run h a in
+    inr (
+      omega arith,
+      record {
+        at = w.next;
+        before = read.run ++ r.run;
+        joins = read.joins ∙ ap (λ cs. read.run ++ cs) r.joins ∙ sym (append_assoc read.run r.run (left_at h text w.next));
+        errs = w.stops;
+      },
+    )
+stop_by (Some m) h t text at k post read w r f =
     let next = w.next in
     let done = bytes_of read.run in
     let b = get_or text next 0 in
     let R = bytes_of r.run in
     let Y = all_from h text (next + 1 + m) in
-    let X : all_from h text at ≡ R ++ b ∷ Y = ap bytes_of (r.joins ∙ ap (λ cs. r.run ++ cs) (left-end h text next m w.stops.within w.stops.line_end f))
+    let X : all_from h text at ≡ R ++ b ∷ Y = ap bytes_of (r.joins ∙ ap (λ cs. r.run ++ cs) (left-end h text next m w.stops.1.within w.stops.1.line_end f))
     ∙ map-append (λ (c : ℕ × ℕ). c.1) r.run ((next, b) ∷ left_at h text (next + 1 + m)) in
-    let s = line_end_facts b (drop (next + 1) text) w.stops.line_end in
+    let s = line_end_facts b (drop (next + 1) text) w.stops.1.line_end in
     let one : 1 + label_len Y ≡ suc (label_len Y) = omega arith in
     let len : label_len (R ++ b ∷ Y) ≡ length R + suc (label_len Y) =
     (run_facts R (b ∷ Y) r.white).0 ∙ ap (λ j. length R + j) (upto-byte is_bracket b Y (rw s.2) s.3 ∙ one) in
@@ -163,5 +170,5 @@ stop_by (Some m) h t text at k post read w a f =
     inl (λ z. heavy_differs t (done ++ R) (take (label_len Y) Y) b s.0 s.1 (ap (as_read t) (sym is) ∙ z ∙ is))
 
 pub track_stop : (h : List ℕ → Option ℕ) (t : Bool) (text : List ℕ) (at : ℕ) (k : Known) (post : Bor (List ℕ) → Result (Option ℕ) AllocError → Type 0)
-    → IsRead h t text 0 at k → StopsByError text at post → AnswersWith text h post → CanErr h t text post
-track_stop h t text at k post r s a = stop_by _ h t text at k post r s a refl
+    → IsRead h t text 0 at k → (s : StopsByError text at post) → IsWhiteRun h text at s.next s.characters → CanErr h t text post
+track_stop h t text at k post r s run = stop_by _ h t text at k post r s run refl

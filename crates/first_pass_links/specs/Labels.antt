@@ -1,6 +1,6 @@
 -- Link labels (CommonMark 6.3). Here an argument `text` has the bytes from an offset up to the end of the text;
 -- `label_at` takes those after a `[`.
-use Rattle.std.specs.Prelude.{◌≡◌, ◌≢◌, ◌⊎◌, ℕ, zero, suc, ◌+◌, ◌==◌, ◌&&◌, ◌||◌, not, Bool, List, [], ◌∷◌, map, take, drop, slice_index, Option, Some, None}
+use Rattle.std.specs.Prelude.{◌≡◌, ◌≢◌, ◌⊎◌, ℕ, zero, suc, ◌+◌, ◌==◌, ◌&&◌, ◌||◌, not, Bool, List, [], ◌∷◌, ◌++◌, map, take, drop, slice_index, Option, Some, None}
 use Rattle.std.specs.Prelude.{Ok, Err, Result, length, true, ◌<◌, IsUtf8, nat_lt, nat_le, if◌then◌else◌, IsSomeAnd, MatchOption}
 use Rattle.std.specs.Option.{option_map_or}
 use Rattle.std.specs.List.{list_any, count_by}
@@ -103,29 +103,32 @@ IsRewritten prefix in_table text = as_read in_table (before_bracket prefix text)
 abbrev pub HasNoBracket : (List ℕ → Option ℕ) → List ℕ → Type 0
 HasNoBracket prefix text = let bs = bytes_of (joined prefix 0 0 text) in label_len bs ≡ length bs
 
--- the byte at the offset `at` ends a line, and the handler fails on the bytes after it (this project)
-pub record ErrsAfter (text : List ℕ) (at : ℕ) (post : Bor (List ℕ) → Result (Option ℕ) AllocError → Type 0) : Type 0 where
+-- the byte at the offset `at` ends a line, and the handler may return this result for the bytes after it (this project)
+pub record ReturnsAfter (text : List ℕ) (at : ℕ) (result : Result (Option ℕ) AllocError) (post : Bor (List ℕ) → Result (Option ℕ) AllocError → Type 0)
+    : Type 0 where
   pub within : at < length text
   pub line_end : ends_line (slice_index text at) (drop (at + 1) text) ≡ true
   pub boundary : IsCharBoundary text (at + 1)
   pub following : Bor (List ℕ)
   pub past_is : following.now ≡ drop (at + 1) text
-  pub error : AllocError
-  pub errs : post following (Err error)
+  pub returns : post following result
+
+-- the byte at the offset `at` ends a line, and the handler may fail on the bytes after it (this project)
+abbrev pub ErrsAfter : List ℕ → ℕ → (Bor (List ℕ) → Result (Option ℕ) AllocError → Type 0) → Type 0
+ErrsAfter text at post = (error : AllocError) × ReturnsAfter text at (Err error) post
+
+-- The label extends up to a line ending after which the handler may fail. The joined text has some bytes, and then those
+-- that are joined from this line ending on (this project).
+pub record ErrsInLabel (prefix : List ℕ → Option ℕ) (text : List ℕ) (post : Bor (List ℕ) → Result (Option ℕ) AllocError → Type 0) : Type 0 where
+  pub at : ℕ
+  pub before : List (ℕ × ℕ)
+  pub joins : joined prefix 0 0 text ≡ before ++ joined prefix at 0 (drop at text)
+  pub errs : ErrsAfter text at post
 
 -- Reading a label may fail in two cases. Its source changes as it is read; or the joined text has no unescaped bracket,
--- and the handler fails after a line ending (this project).
+-- and the handler may fail after a line ending to which the label extends (this project).
 abbrev pub CanErr : (List ℕ → Option ℕ) → Bool → List ℕ → (Bor (List ℕ) → Result (Option ℕ) AllocError → Type 0) → Type 0
-CanErr prefix in_table text post = IsRewritten prefix in_table text ⊎ (HasNoBracket prefix text × ((at : ℕ) × ErrsAfter text at post))
-
--- the byte at the offset `at` ends a line, and the handler may return this answer for the bytes after it (this project)
-pub record AnswersAfter (text : List ℕ) (at : ℕ) (answer : Option ℕ) (post : Bor (List ℕ) → Result (Option ℕ) AllocError → Type 0) : Type 0 where
-  pub within : at < length text
-  pub line_end : ends_line (slice_index text at) (drop (at + 1) text) ≡ true
-  pub boundary : IsCharBoundary text (at + 1)
-  pub following : Bor (List ℕ)
-  pub past_is : following.now ≡ drop (at + 1) text
-  pub answers : post following (Ok answer)
+CanErr prefix in_table text post = IsRewritten prefix in_table text ⊎ (HasNoBracket prefix text × ErrsInLabel prefix text post)
 
 -- The result is the label under these prefixes, with the offset after its `]`. It is none exactly if there is no label
 -- under them (CommonMark 6.3).
@@ -140,7 +143,17 @@ pub record ReadsLabel (text : List ℕ) (in_table : Bool) (post : Bor (List ℕ)
     : Type 0 where
   pub asked : ℕ → Bool
   pub prefix : List ℕ → Option ℕ
-  pub allowed : (at : ℕ) → asked at ≡ true → AnswersAfter text at (prefix (drop (at + 1) text)) post
+  pub allowed : (at : ℕ) → asked at ≡ true → ReturnsAfter text at (Ok (prefix (drop (at + 1) text))) post
   pub label : IsLabelUnder prefix in_table text answer
   pub enough : (other : List ℕ → Option ℕ) → ((at : ℕ) → asked at ≡ true → other (drop (at + 1) text) ≡ prefix (drop (at + 1) text))
       → label_at other in_table text ≡ label_at prefix in_table text
+
+-- Reading a label may fail under answers that the handler may give, which need not be the same for the same bytes.
+-- `asked` holds at some line endings, and `prefix` gives what the handler may return after each of these. They decide
+-- that it may fail: it may under each other prefix with these answers (this project).
+pub record FailsOnLabel (text : List ℕ) (in_table : Bool) (post : Bor (List ℕ) → Result (Option ℕ) AllocError → Type 0) : Type 0 where
+  pub asked : ℕ → Bool
+  pub prefix : List ℕ → Option ℕ
+  pub allowed : (at : ℕ) → asked at ≡ true → ReturnsAfter text at (Ok (prefix (drop (at + 1) text))) post
+  pub fails : (other : List ℕ → Option ℕ) → ((at : ℕ) → asked at ≡ true → other (drop (at + 1) text) ≡ prefix (drop (at + 1) text))
+      → CanErr other in_table text post

@@ -1,6 +1,6 @@
 -- The units in which a label is read. Only contracts of private functions cite this.
 use Rattle.std.specs.Prelude.{◌≡◌, ◌⊎◌, ℕ, ◌+◌, ◌-◌, ◌==◌, ◌<◌, ◌≤◌, ◌&&◌, not, Bool, true, false, List, [], ◌∷◌, ◌++◌, length, take, drop, slice_index}
-use Rattle.std.specs.Prelude.{Option, Result, None, IfSome, IsSomeAnd, MatchOption, if◌then◌else◌}
+use Rattle.std.specs.Prelude.{Option, Result, Ok, None, IfSome, IsSomeAnd, MatchOption, if◌then◌else◌}
 use Rattle.std.specs.List.{list_any, list_all, count_by}
 use Rattle.std.specs.Borrow.{Bor}
 use Rattle.std.specs.Str.{IsCharBoundary}
@@ -10,7 +10,7 @@ use Rattle.first_pass_lines.specs.Lines.{begins, is_white_or_line_end}
 use Rattle.first_pass_links.specs.Escapes.{begins_escape}
 use Rattle.first_pass_links.specs.Changes.{begins_pipe_escape}
 use Rattle.first_pass_links.specs.declared.label.Unit.{Unit}
-use Rattle.first_pass_links.specs.Labels.{AnswersAfter, AnswersWith, ErrsAfter, IsRewritten, begins_character, joined, bytes_of, label_len, label_at, as_read}
+use Rattle.first_pass_links.specs.Labels.{ReturnsAfter, ErrsAfter, IsRewritten, begins_character, joined, bytes_of, label_len, label_at, as_read}
 
 -- the bytes from one offset up to another (this project)
 abbrev pub part : List ℕ → ℕ → ℕ → List ℕ
@@ -110,14 +110,6 @@ pub record EndsWhiteRun (text : List ℕ) (at next characters : ℕ) : Type 0 wh
   pub bound : characters ≤ next - at
   pub lone : characters ≡ 1 → slice_index text at ≡ space → next ≡ at + 1
 
--- white space and line endings extend from `at` up to `next`; the byte at `next` ends a line, and the handler fails
--- after it (this project)
-pub record StopsByError (text : List ℕ) (at : ℕ) (post : Bor (List ℕ) → Result (Option ℕ) AllocError → Type 0) : Type 0 where
-  pub next : ℕ
-  pub characters : ℕ
-  pub run : (prefix : List ℕ → Option ℕ) → AnswersWith text prefix post → IsWhiteRun prefix text at next characters
-  pub stops : ErrsAfter text next post
-
 -- A fact on prefixes holds under answers that the handler may give. `asked` holds at some line endings from one offset
 -- up to another, and `answers` has what the handler may return after each of these. The fact holds for each `prefix` with
 -- these answers (this project).
@@ -126,8 +118,17 @@ pub record UnderAnswers (text : List ℕ) (post : Bor (List ℕ) → Result (Opt
   pub asked : ℕ → Bool
   pub answers : ℕ → Option ℕ
   pub between : (at : ℕ) → asked at ≡ true → (from ≤ at) × (at < upto)
-  pub allowed : (at : ℕ) → asked at ≡ true → AnswersAfter text at (answers at) post
+  pub allowed : (at : ℕ) → asked at ≡ true → ReturnsAfter text at (Ok (answers at)) post
   pub holds : (prefix : List ℕ → Option ℕ) → ((at : ℕ) → asked at ≡ true → prefix (drop (at + 1) text) ≡ answers at) → Fact prefix
+
+-- white space and line endings extend from `at` up to `next`; the byte at `next` ends a line, and the handler may fail
+-- after it (this project)
+pub record StopsByError (text : List ℕ) (at : ℕ) (post : Bor (List ℕ) → Result (Option ℕ) AllocError → Type 0) : Type 0 where
+  pub next : ℕ
+  pub characters : ℕ
+  pub order : at ≤ next
+  pub run : UnderAnswers text post at next (λ prefix. IsWhiteRun prefix text at next characters)
+  pub stops : ErrsAfter text next post
 
 -- The result for a label is an offset and that of its `]`, or none if no label is there. The label as it is read is
 -- `written`, then the text from the first offset up to the `]`. If that offset is not 0, something changes (this project).
@@ -137,4 +138,4 @@ pub record ReadsUnits (text : List ℕ) (in_table : Bool) (post : Bor (List ℕ)
       (λ label. IsSomeAnd answer (λ read. (read.1 + 1 ≡ label.0) × (written ++ part text read.0 read.1 ≡ label.1))))
   pub closes : IfSome answer (λ read. (read.1 < length text) × (slice_index text read.1 ≡ right_bracket))
   pub lighter : IfSome answer (λ read. IsLighter text written read.0 read.1)
-  pub changes : IfSome answer (λ read. 0 < read.0 → (prefix : List ℕ → Option ℕ) → AnswersWith text prefix post → IsRewritten prefix in_table text)
+  pub changes : IfSome answer (λ read. 0 < read.0 → UnderAnswers text post 0 (length text) (λ prefix. IsRewritten prefix in_table text))

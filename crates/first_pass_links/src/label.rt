@@ -5,7 +5,7 @@ ghost use Rattle.first_pass_items.specs.Bytes.{backslash, space};
 ghost use Rattle.first_pass_items.specs.CowText.{text_of};
 ghost use Rattle.first_pass_lines.specs.Lines.{ends_line, is_white_or_line_end};
 ghost use Rattle.first_pass_links.specs.Destinations.{unescaped_upto};
-ghost use Rattle.first_pass_links.specs.Labels.{AnswersWith, AnswersPlaces, CanErr, ErrsAfter, IsLabelUnder, ReadsLabel, is_bracket, begins_character, ends_line_label, is_label};
+ghost use Rattle.first_pass_links.specs.Labels.{AnswersWith, AnswersPlaces, CanErr, ErrsAfter, FailsOnLabel, IsLabelUnder, ReadsLabel, is_bracket, begins_character, ends_line_label, is_label};
 ghost use Rattle.first_pass_links.specs.Units.{part, read_of, left_at, kept_unit, space_unit, dropped_unit, backslash_unit, IsUnit, Reads, ReadsUnits, IsLighter, IsWhiteRun, EndsWhiteRun, StopsByError, IsBlankRest, UnderAnswers};
 ghost use Rattle.std.specs.List.{list_any, count_by};
 ghost use Rattle.std.specs.Prelude.{◌≡◌, ◌≢◌, ◌+◌, ◌-◌, ◌<◌, ◌≤◌, ◌++◌, ◌∷◌, [], ℕ, List, Option, true, false, not, None, Some, length, take, drop, slice_index, IfOk, IfSome, IsUtf8, OnErr, IsSomeAnd, MatchOption, if◌then◌else◌};
@@ -56,6 +56,7 @@ where
         text_of found.1 ≡ take (found.0 - 1) text.now → Borrows (take (found.0 - 1) text.now) found.1)) }
     ensures err { OnErr result ((prefix : List ℕ → Option ℕ) → AnswersWith text.now prefix (F.post linebreak_handler)
         → CanErr prefix is_in_table text.now (F.post linebreak_handler)) }
+    ensures fails { OnErr result (FailsOnLabel text.now is_in_table (F.post linebreak_handler)) }
 {
     let mut written = String::new(alloc);
     let Some((from, at)) = scan_units(&mut written, text, &linebreak_handler, is_in_table)? else {
@@ -80,9 +81,8 @@ where
     requires places { AnswersPlaces text.now (F.post linebreak_handler.now) }
     requires empty { string_bytes written.old ≡ [] }
     ensures ok { IfOk result (ReadsUnits text.now in_table (F.post linebreak_handler.now) (string_bytes written.new)) }
-    ensures err { OnErr result ((prefix : List ℕ → Option ℕ)
-        → AnswersWith text.now prefix (F.post linebreak_handler.now)
-        → CanErr prefix in_table text.now (F.post linebreak_handler.now)) }
+    ensures err { OnErr result (UnderAnswers text.now (F.post linebreak_handler.now)
+        0 (length text.now) (λ prefix. CanErr prefix in_table text.now (F.post linebreak_handler.now))) }
 {
     let bytes = text.as_bytes();
     if let Some(len) = scan_plain_label(bytes) {

@@ -22,7 +22,8 @@ returns-clause-err c =
     (f (prefix_crossed true around) (λ following answer at b e p.
     let there = place_from text following.now bs c.args.start at c.requires c.range_from.ensures.value b e in
     let u = there.0 in let v = there.1 in search rules))
-    (λ at s.
+    (λ at e.
+    let s = e.1 in
     let there = place_from text s.following.now bs c.args.start (at + 1) c.requires c.range_from.ensures.value s.boundary s.past_is in
-    ap (λ xs. line_may_head_table around (line_rest xs)) (sym s.past_is) ∙ (let u = there.0 in let v = there.1 in let p = s.errs in search rules)))
+    ap (λ xs. line_may_head_table around (line_rest xs)) (sym s.past_is) ∙ (let u = there.0 in let v = there.1 in let p = s.returns in search rules)))
     c.scan_link_label_rest.ensures.err)

@@ -6,7 +6,7 @@ use Rattle.first_pass_items.specs.CowText.{text_of}
 use Rattle.first_pass_items.proofs.ResultFacts.{on_err}
 use Rattle.first_pass_links.specs.Labels.{IsLabelUnder, label_at}
 use Rattle.first_pass_links.specs.Units.{part, ReadsUnits, UnderAnswers}
-use Rattle.first_pass_links.proofs.Handlers.{under_with, under_map, under_read}
+use Rattle.first_pass_links.proofs.Handlers.{under_with, under_map, under_read, under_fails}
 use Rattle.first_pass_links.proofs.label.scan_link_label_rest.Goals as goal
 
 abbrev NoUnits : Option (ℕ × ℕ) → Type 0
@@ -65,4 +65,16 @@ returns-clause-following g c =
 pub returns-in_err-finish-clause-err : goal.returns-in_err-finish-clause-err
 returns-in_err-finish-clause-err g c =
     on_err c.from_residual-in_err-finish.result
-    (λ prefix a. inl ((rw c.in-Some.is at c.in_ok-from.ensures.ok).changes c.in_err-finish.ensures.err prefix a))
+    (λ prefix a. inl (under_with ((rw c.in-Some.is at c.in_ok-from.ensures.ok).changes c.in_err-finish.ensures.err) prefix a))
+
+pub returns-in_err-finish-clause-fails : goal.returns-in_err-finish-clause-fails
+returns-in_err-finish-clause-fails g c =
+    on_err c.from_residual-in_err-finish.result
+    (under_fails (under_map ((rw c.in-Some.is at c.in_ok-from.ensures.ok).changes c.in_err-finish.ensures.err) (omega arith) (omega arith) (λ h z. inl z)))
+
+-- the units can't be read
+pub returns-in_err-from-clause-err : goal.returns-in_err-from-clause-err
+returns-in_err-from-clause-err g c = on_err c.from_residual.result (λ prefix a. under_with c.in_err-from.ensures.err prefix a)
+
+pub returns-in_err-from-clause-fails : goal.returns-in_err-from-clause-fails
+returns-in_err-from-clause-fails g c = on_err c.from_residual.result (under_fails c.in_err-from.ensures.err)

@@ -45,7 +45,7 @@ returns-in-Some-clause-reads g c =
       boundary = after_white c.args.bytes.now c.args.at c.requires.text c.requires.within c.requires.white;
       following = c.rest_of-following.result;
       past_is = c.rest_of-following.ensures.value;
-      answers = rw c.in-Some.is at c.in_ok-prefix.ensures;
+      returns = rw c.in-Some.is at c.in_ok-prefix.ensures;
     })
     (λ h e. left-end h c.args.bytes.now c.args.at c.in-Some.prefix c.requires.within line_end e)
 
@@ -59,10 +59,21 @@ returns-in-None-clause-none g c =
       boundary = after_white c.args.bytes.now c.args.at c.requires.text c.requires.within c.requires.white;
       following = c.rest_of-following.result;
       past_is = c.rest_of-following.ensures.value;
-      answers = rw c.in-None.is at c.in_ok-prefix.ensures;
+      returns = rw c.in-None.is at c.in_ok-prefix.ensures;
     })
     (λ h f. left-stop h c.args.bytes.now c.args.at c.requires.within line_end f)
 
 -- the handler fails
 pub returns-in_err-prefix-clause-err : goal.returns-in_err-prefix-clause-err
-returns-in_err-prefix-clause-err g c = grind (arith, on_err, after_white)
+returns-in_err-prefix-clause-err g c = on_err c.from_residual.result (
+  _,
+  record {
+    within = c.requires.within;
+    line_end = ap (ends_line (get_or c.args.bytes.now c.args.at 0)) (sym c.rest_of-following.ensures.value) ∙ sym c.ends_line.ensures
+        ∙ c.if-not-ends_line.false;
+    boundary = after_white c.args.bytes.now c.args.at c.requires.text c.requires.within c.requires.white;
+    following = c.rest_of-following.result;
+    past_is = c.rest_of-following.ensures.value;
+    returns = c.in_err-prefix.ensures;
+  },
+)

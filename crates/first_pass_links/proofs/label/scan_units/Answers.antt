@@ -7,11 +7,11 @@ use Rattle.std.proofs.lemmas.Str.{IsCharBoundary-start}
 use Rattle.first_pass_items.specs.Bytes.{right_bracket}
 use Rattle.first_pass_items.proofs.ResultFacts.{on_err}
 use Rattle.first_pass_lines.specs.Lines.{begins}
-use Rattle.first_pass_links.specs.Labels.{AnswersWith, IsRewritten, is_bracket, label_at}
+use Rattle.first_pass_links.specs.Labels.{IsRewritten, is_bracket, label_at}
 use Rattle.first_pass_links.specs.Plain.{IsPlainLabel}
 use Rattle.first_pass_links.specs.Units.{part, left_at, IsLighter, Reads, ReadsUnits, UnderAnswers}
 use Rattle.first_pass_links.proofs.Destinations.{first_byte}
-use Rattle.first_pass_links.proofs.Handlers.{under_with, under_none, under_map, under_both}
+use Rattle.first_pass_links.proofs.Handlers.{under_none, under_map, under_both}
 use Rattle.first_pass_links.proofs.Parts.{of_text, part-none, part-start}
 use Rattle.first_pass_links.proofs.PlainRuns.{plain_label}
 use Rattle.first_pass_links.proofs.Labels.{too_long, blank_stops, end_stops, at_bracket, label_after, label_read, read_nothing, read_both, read_unit, Known}
@@ -71,7 +71,7 @@ none_read text written in_table post none = record {
 some_read : (text written : List ℕ) (in_table : Bool) (post : Bor (List ℕ) → Result (Option ℕ) AllocError → Type 0) (from at : ℕ)
     → UnderAnswers text post 0 (length text) (λ prefix. label_at prefix in_table text ≡ Some (at + 1, written ++ part text from at))
     → (at < length text) × (get_or text at 0 ≡ right_bracket) → IsLighter text written from at
-    → (0 < from → (prefix : List ℕ → Option ℕ) → AnswersWith text prefix post → IsRewritten prefix in_table text)
+    → (0 < from → UnderAnswers text post 0 (length text) (λ prefix. IsRewritten prefix in_table text))
     → ReadsUnits text in_table post written (Some (from, at))
 some_read text written in_table post from at some closes lighter changes = record {
   value = under_map some (omega arith) (omega arith) (λ h e. rw e (refl, refl));
@@ -131,8 +131,8 @@ returns-then-begins-clause-ok g c =
     some_read text _ c.args.in_table _ c.loop-at.from c.loop-at.at
     (under_map c.loop-at.invariant.tracked (omega arith) c.loop-at.invariant.read.within (λ h k. label_read h c.args.in_table text c.loop-at.at _ k.read
     ∙ at_bracket h c.args.in_table text c.loop-at.at _ there.0 (rw there.1) c.loop-at.invariant.bound ∙ rw (there.1, c.if-solid.true)))
-    there c.loop-at.invariant.read (λ some h a. track_written h c.args.in_table text c.loop-at.at _ (c.loop-at.from ≡ 0)
-    (under_with c.loop-at.invariant.tracked h a) (λ z. omega (arith, some, z)))
+    there c.loop-at.invariant.read (λ some. under_map c.loop-at.invariant.tracked (omega arith) c.loop-at.invariant.read.within
+    (λ h k. track_written h c.args.in_table text c.loop-at.at _ (c.loop-at.from ≡ 0) k (λ z. omega (arith, some, z))))
 
 pub returns-clause-ok : goal.returns-clause-ok
 returns-clause-ok g c =
@@ -156,14 +156,22 @@ returns-clause-ok g c =
 -- the handler fails
 pub returns-in_err-unit-clause-err : goal.returns-in_err-unit-clause-err
 returns-in_err-unit-clause-err g c =
-    on_err c.from_residual.result
-    (λ h a. track_stop h c.args.in_table c.args.text.now c.loop-at.at _ _ (under_with c.loop-at.invariant.tracked h a).read
-    (rw c.as_bytes-bytes.ensures.value at c.in_err-unit.ensures.err) a)
+    let text = c.args.text.now in
+    let stop = rw c.as_bytes-bytes.ensures.value at c.in_err-unit.ensures.err in
+    let both = under_both c.loop-at.invariant.tracked stop.run (omega arith, stop.order)
+    (λ h k r. track_stop h c.args.in_table text c.loop-at.at _ _ k.read stop r) in
+    let order = stop.order in
+    let within = stop.stops.1.within in
+    on_err c.from_residual.result (under_map both (omega arith) (omega arith) (λ h z. z))
 
 -- a unit is written
 pub returns-in_err-from-clause-err : goal.returns-in_err-from-clause-err
-returns-in_err-from-clause-err g c = on_err c.from_residual-in_err-from.result (λ h a.
-    let k = track_unit h c.args.in_table c.args.text.now c.loop-at.at _ c.in-Some-2.unit (c.loop-at.from ≡ 0) ⊥
-    (under_with c.loop-at.invariant.tracked h a) (under_with (reads g (goal.at.returns-in_err-from-clause-err g c).In-Some-2) h a)
-    (λ e z. c.in_err-from.ensures.err e) in
-    inl (track_written h c.args.in_table c.args.text.now c.in-Some-2.unit.next _ ⊥ k (λ z. z)))
+returns-in_err-from-clause-err g c =
+    let text = c.args.text.now in
+    let unit = c.in-Some-2.unit in
+    let here = (goal.at.returns-in_err-from-clause-err g c).In-Some-2 in
+    let order = later g here in
+    let written = under_both c.loop-at.invariant.tracked (reads g here) (omega arith, omega arith) (λ h k r.
+    track_written h c.args.in_table text unit.next _ ⊥ (track_unit h c.args.in_table text c.loop-at.at _ unit (c.loop-at.from ≡ 0) ⊥ k r
+    (λ e z. c.in_err-from.ensures.err e)) (λ z. z)) in
+    on_err c.from_residual-in_err-from.result (under_map written (omega arith) order.1 (λ h z. inl z))

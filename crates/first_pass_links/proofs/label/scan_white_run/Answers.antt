@@ -1,7 +1,7 @@
 use Rattle.std.proofs.Common.{◌≡◌, ℕ, ◌+◌, List, [], slice_index, refl, sym, ◌∙◌, arith}
 use Rattle.first_pass_items.specs.Bytes.{space}
 use Rattle.first_pass_items.proofs.ResultFacts.{on_err}
-use Rattle.first_pass_links.proofs.Handlers.{under_both, under_none, under_with}
+use Rattle.first_pass_links.proofs.Handlers.{under_both, under_none}
 use Rattle.first_pass_links.proofs.Labels.{run_more, run_blank, white_is_ascii}
 use Rattle.first_pass_links.proofs.label.scan_white_run.Goals as goal
 
@@ -51,6 +51,7 @@ pub returns-in_err-following-clause-err : goal.returns-in_err-following-clause-e
 returns-in_err-following-clause-err g c = on_err c.from_residual.result (record {
   next = c.loop-next.next;
   characters = c.loop-next.characters;
-  run = λ h a. under_with c.loop-next.invariant.run h a;
+  order = c.loop-next.invariant.from;
+  run = c.loop-next.invariant.run;
   stops = c.in_err-following.ensures.err;
 })
