@@ -334,11 +334,12 @@ impl PassState {
         ensures { self.new ≡ list_finished ix self.old }
     {
         self.finish_empty_list_item();
-        self.end_list(ix);
+        self.leave_list_and_mark_gap(ix);
     }
 
-    // Does the rest of `finish_list`, after an empty item is closed.
-    fn end_list(&mut self, ix: usize)
+    // Calls `leave_list` at the offset `ix`, and then `mark_gap`: a blank line before the new block counts for the list
+    // around the closed one. This is the rest of `finish_list`, after an empty item is closed.
+    fn leave_list_and_mark_gap(&mut self, ix: usize)
         ensures { self.new ≡ gap_marked (list_closed ix self.old) }
     {
         self.leave_list(ix);
@@ -468,7 +469,7 @@ impl PassState {
             self.keep_list();
             return Ok(());
         }
-        self.end_list(start);
+        self.leave_list_and_mark_gap(start);
         open_block(
             &mut self.tree,
             start,
