@@ -4,7 +4,7 @@
 ghost use Rattle.first_pass_items.specs.Bytes.{hyphen, colon, backslash, pipe};
 ghost use Rattle.first_pass_lines.specs.Lines.{begins, is_content};
 ghost use Rattle.first_pass_scan.specs.TableHead.{is_pipe, head_columns, columns_by_pipes, delimiter_row_of, last_pipe_after, pipes_of};
-ghost use Rattle.std.specs.List.{take_while};
+ghost use Rattle.std.specs.List.{prefix_len, take_while};
 ghost use Rattle.std.specs.Option.{option_map, option_map_or};
 ghost use Rattle.std.specs.Prelude.{◌≡◌, ◌≤◌, ℕ, ◌+◌, ◌-◌, ◌==◌, ◌&&◌, ◌||◌, not, nat_lt, length, slice_index, Some, IfOk};
 
@@ -17,13 +17,21 @@ use std::alloc::{AllocError, Global};
 /// Returns the number of columns of the first line of `bytes` as a header row. Each pipe that is not directly after a
 /// backslash counts, except one that begins the line after white space. If the rest of the line after the last such
 /// pipe is not blank, it is one more column. Returns 0 if there is no such pipe. GFM 4.10.
-// Not inlined: in its caller the loop over the bytes of a row would lack registers.
-#[inline(never)]
 pub fn scan_head_columns(bytes: &[u8]) -> usize
     ensures { result ≡ head_columns bytes.now }
 {
-    let row = &bytes[..content_len(bytes)];
-    let (pipes, end) = count_pipes(row);
+    scan_row_columns(bytes, content_len(bytes))
+}
+
+/// Returns the same as `scan_head_columns`, for a line whose length without its line ending, `content`, is known.
+// Not inlined: in its caller the loop over the bytes of a row would lack registers.
+#[inline(never)]
+pub fn scan_row_columns(bytes: &[u8], content: usize) -> usize
+    requires content { content ≡ prefix_len is_content bytes.now }
+    requires within { content ≤ length bytes.now }
+    ensures { result ≡ head_columns bytes.now }
+{
+    let (pipes, end) = count_pipes(&bytes[..content]);
     if end == 0 {
         return 0;
     }
