@@ -6,7 +6,7 @@ use Rattle.first_pass.specs.declared.state.FirstPass.{FirstPass}
 use Rattle.first_pass.specs.Calls.{AddsLeafBlock, AddsLineBlock}
 use Rattle.first_pass.specs.Kept.{KeepsNames}
 use Rattle.first_pass.specs.Views.{allocs_of, braces_of, state_of, source_of, source_text, tree_of}
-use Rattle.first_pass.proofs.Closable.{closable_added}
+use Rattle.first_pass.proofs.Adding.{may_add_added}
 use Rattle.first_pass.proofs.TablesWhole.{silent_whole}
 
 -- These items were added, which are no part of a table. Otherwise only the tables of entries, the mark of an empty item, and the mark of a counting
@@ -36,8 +36,8 @@ module _ {old new : FirstPass} {blank : Bool} (items : List (ℕ × Item))
     order = λ at low begins o.
         block_ordered (source_text old) (state_of old) (state_of new) at start next o low (λ from before. fits from before begins) within
         (ap (λ (r : PassState). r.begin_list_item) same.2);
-    closable = λ at low begins h.
-        closable_added (source_text old) (state_of old) (state_of new) at next items tree_is h
+    may_add = λ at low begins h.
+        may_add_added (source_text old) (state_of old) (state_of new) at next items tree_is h
         (block_ordered (source_text old) (state_of old) (state_of new) at start next h.read.0 low (λ from before. fits from before begins) within
         (ap (λ (r : PassState). r.begin_list_item) same.2));
   }

@@ -16,10 +16,10 @@ use Rattle.first_pass_order.specs.Ordered.{top_of}
 use Rattle.first_pass_order.proofs.Nests.{begun_nested, tree_closes}
 use Rattle.first_pass_order.proofs.OrderLemmas.{get_mid, ordered_begun}
 use Rattle.first_pass_order.proofs.RowSplits.{current_child, open_last_fits}
-use Rattle.first_pass.specs.Closable.{IsClosable}
+use Rattle.first_pass.specs.Adding.{MayAddAt}
 use Rattle.first_pass.specs.Holds.{HoldsChain}
 use Rattle.first_pass.proofs.Chains.{chain_in, marked_is}
-use Rattle.first_pass.proofs.Closable.{closable_by}
+use Rattle.first_pass.proofs.Adding.{may_add_by}
 use Rattle.first_pass.proofs.OrderJoin.{ordered_ended}
 
 -- no node is open if the root is the only one
@@ -36,8 +36,8 @@ none_open ds (ix ∷ spine) one path =
     let deep : slice_index ds 0 ≡ length spine + 1 = ap (slice_index ds) (sym first) ∙ path.0.depth in
     absurd (omega arith)
 
-pub new_closable : (text : List ℕ) (r : PassState) → IsForest r.tree → length r.tree.nodes ≡ 1 → IsReadTo text r 0 → IsClosable text r 0
-new_closable text r forest one h =
+pub new_may_add : (text : List ℕ) (r : PassState) → IsForest r.tree → length r.tree.nodes ≡ 1 → IsReadTo text r 0 → MayAddAt text r 0
+new_may_add text r forest one h =
     let closed = none_open (depths r.tree.nodes) r.tree.spine (length-map r.tree.nodes (λ n. n.0) ∙ one) forest.opened in
     record { read = h; outside = ap (λ (s : List TreeIndex). is_list (top_of r.tree.nodes s)) closed }
 
@@ -74,23 +74,23 @@ module _ (start : ℕ) (body : ItemBody) (r : PassState) where
       }) here (sym (marked_is tree marker []))
 
 -- The open nodes can be closed if it is no list, and if it is an item directly in a list.
-begun_closable : (text : List ℕ) (r : PassState) (at start : ℕ) (body : ItemBody) → IsReadTo text r at → at ≤ start → IsCharBoundary text start
+begun_may_add : (text : List ℕ) (r : PassState) (at start : ℕ) (body : ItemBody) → IsReadTo text r at → at ≤ start → IsCharBoundary text start
     → (is_list (top_body r.tree) ≡ true → is_item (Some body) ≡ true) → is_list (Some body) ≡ false
-    → IsClosable text (begun start body (with_block r r.tree)) start
-begun_closable text r at start body h low starts may other =
+    → MayAddAt text (begun start body (with_block r r.tree)) start
+begun_may_add text r at start body h low starts may other =
     let state : PassState = begun start body (with_block r r.tree) in
     let before = h.0.later in
     let ordered = ordered_begun text (with_block r r.tree) (reached r.begin_list_item at) start body (omega arith) starts.0 starts h.0.ordered in
-    closable_by text state state.tree start refl (
+    may_add_by text state state.tree start refl (
       begun_nested start body (with_block r r.tree) may h.1.nested,
       ap is_list (top_begun start body (with_block r r.tree)) ∙ other,
     )
     (ordered_none text state start refl starts.0 ordered)
 
-pub closable_begun : (text : List ℕ) (r : PassState) (at start : ℕ) (body : ItemBody) → IsClosable text r at → at ≤ start
-    → IsCharBoundary text start → is_list (Some body) ≡ false → IsClosable text (begun start body (with_block r r.tree)) start
-closable_begun text r at start body c low starts other =
-    begun_closable text r at start body c.read low starts (λ list. absurd (false≢true (sym c.outside ∙ list))) other
+pub may_add_begun : (text : List ℕ) (r : PassState) (at start : ℕ) (body : ItemBody) → MayAddAt text r at → at ≤ start
+    → IsCharBoundary text start → is_list (Some body) ≡ false → MayAddAt text (begun start body (with_block r r.tree)) start
+may_add_begun text r at start body c low starts other =
+    begun_may_add text r at start body c.read low starts (λ list. absurd (false≢true (sym c.outside ∙ list))) other
 
 -- an item, in a list or elsewhere
 item_no_list : (body : ItemBody) → is_item (Some body) ≡ true → is_list (Some body) ≡ false
@@ -99,8 +99,8 @@ item_no_list (DefinitionListDefinition columns) h = refl
 item_no_list body h = absurd (false≢true h)
 
 pub item_begun : (text : List ℕ) (r : PassState) (at start : ℕ) (body : ItemBody) → IsReadTo text r at → at ≤ start → IsCharBoundary text start
-    → is_item (Some body) ≡ true → IsClosable text (begun start body (with_block r r.tree)) start
-item_begun text r at start body h low starts item = begun_closable text r at start body h low starts (λ list. item) (item_no_list body item)
+    → is_item (Some body) ≡ true → MayAddAt text (begun start body (with_block r r.tree)) start
+item_begun text r at start body h low starts item = begun_may_add text r at start body h low starts (λ list. item) (item_no_list body item)
 
 -- an end that is the same
 same_end : (nodes : List (ℕ × Item)) (i : ℕ) (x : Item) → option_map (λ (n : ℕ × Item). n.1) (slice_get nodes i) ≡ Some x

@@ -16,8 +16,8 @@ use Rattle.first_pass_tokens.specs.Pieces.{Inline}
 use Rattle.first_pass_tokens.proofs.ChainLemmas.{appended-chained, joins_none-appended}
 use Rattle.first_pass_tokens.proofs.Escapes.{escapes_adds, escapes_append, line_escapes}
 use Rattle.first_pass_tokens.proofs.OrderLemmas.{order_append, LineInOrder, StandsAfter}
-use Rattle.first_pass.specs.Closable.{IsClosable}
-use Rattle.first_pass.proofs.Closable.{IsOutside, appended_outside, closable_by, tokens_outside}
+use Rattle.first_pass.specs.Adding.{MayAddAt}
+use Rattle.first_pass.proofs.Adding.{IsOutside, appended_outside, may_add_by, tokens_outside}
 use Rattle.first_pass.proofs.OrderJoin.{IsOrderedBefore, IsRange, front_of, tokens_after}
 use Rattle.first_pass.specs.Holds.{AreTokens, AreTokensIn, ContinuesChain, HoldsChain, HoldsTokens}
 
@@ -261,12 +261,12 @@ chain_continues text old new block start answer tokens a is h = record {
 -- The open nodes can still be closed if the break after the tokens is appended.
 pub closed_by_break : (text : List ℕ) (old new : PassState) (start to : ℕ) (o : Option Item) (tokens : List Item) → IsOrderedBefore text old.tree start
     → AddsTokens text start to o tokens → new.tree ≡ with_tokens old.tree tokens → new.begin_list_item ≡ None → IsOutside old.tree
-    → IfSome o (λ x. is_break x.body ≡ true → IsClosable text (record new { tree = appended new.tree x }) to)
+    → IfSome o (λ x. is_break x.body ≡ true → MayAddAt text (record new { tree = appended new.tree x }) to)
 closed_by_break text old new start to None tokens o a is none h = tt
 closed_by_break text old new start to (Some x) tokens o a is none h = λ kind.
     let before = a.before in
     let within = a.within in
     let outside = subst IsOutside (sym is) (tokens_outside old.tree tokens h) in
     let read = tokens_after text old.tree new.tree start a.stop tokens o a.order (omega arith) is in
-    closable_by text (record new { tree = appended new.tree x }) (appended new.tree x) to refl (appended_outside new.tree x outside)
+    may_add_by text (record new { tree = appended new.tree x }) (appended new.tree x) to refl (appended_outside new.tree x outside)
     (ordered_none text (record new { tree = appended new.tree x }) to none within (ordered_appended text new.tree a.stop to x a.following within read))

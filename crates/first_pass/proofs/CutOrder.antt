@@ -24,11 +24,11 @@ use Rattle.first_pass_containers.proofs.OrderSteps.{ordered_tree}
 use Rattle.first_pass_items.specs.declared.item.ItemBody.TheVariants.{TightParagraph}
 use Rattle.first_pass_grammar.proofs.Order.Orders.{extents-append, fits-one, fits-order, laid-one}
 use Rattle.first_pass_order.proofs.OrderLemmas.{extents-body, flags_of, top_there}
-use Rattle.first_pass.specs.Closable.{IsClosable}
+use Rattle.first_pass.specs.Adding.{MayAddAt}
 use Rattle.first_pass.specs.Views.{with_tree}
 use Rattle.first_pass.specs.Holds.{StandsAfterBackslash, AreTokens, HoldsChain, HoldsTokens}
 use Rattle.first_pass.proofs.Chains.{chain_holds}
-use Rattle.first_pass.proofs.Closable.{IsOutside, closable_by, no_empty_item, outside_of}
+use Rattle.first_pass.proofs.Adding.{IsOutside, may_add_by, no_empty_item, outside_of}
 use Rattle.first_pass_order.proofs.RowSplits.{extents-split}
 
 -- what is made of the first of the nodes that are cut
@@ -381,10 +381,10 @@ heading_outside f g block level index t k h =
     (subst (AreNested new) (sym now) nested, ap (λ (s : List TreeIndex). is_list (top_of new s)) now ∙ ap is_list heading)
 
 -- A block that contains a chain becomes a heading: the open nodes can still be closed.
-pub heading_closable : {d : Document} {level : HeadingLevel} {broken : Bool} {block : TreeIndex} (r : PassState) (new : Forest Item) (at to : ℕ)
-    → IsForest r.tree → BecomesHeading d level broken block r.tree new → HoldsChain d.text r.tree block to → IsClosable d.text r at
-    → IsClosable d.text (with_tree r new) at
-heading_closable {d = d} {level = level} {block = block} r new at to forest heads h c =
+pub heading_may_add : {d : Document} {level : HeadingLevel} {broken : Bool} {block : TreeIndex} (r : PassState) (new : Forest Item) (at to : ℕ)
+    → IsForest r.tree → BecomesHeading d level broken block r.tree new → HoldsChain d.text r.tree block to → MayAddAt d.text r at
+    → MayAddAt d.text (with_tree r new) at
+heading_may_add {d = d} {level = level} {block = block} r new at to forest heads h c =
     let tokens = chain_holds d.text r.tree block to h in
     let x : Item = tokens.node in
     let (rest, spine) = open_as r.tree.spine block h.innermost in
@@ -400,6 +400,6 @@ heading_closable {d = d} {level = level} {block = block} r new at to forest head
     ∙ text_no_item x.body tokens.has_text in
     let none = no_empty_item d.text r at c.read.0 top in
     let ordered : IsOrderedTo d.text r.tree at = ordered_tree d.text r at none c.read.0 in
-    closable_by d.text (with_tree r new) (with_body_at heads.cut block (Heading level heads.index)) at heads.tree_is
+    may_add_by d.text (with_tree r new) (with_body_at heads.cut block (Heading level heads.index)) at heads.tree_is
     (heading_outside r.tree heads.cut block level heads.index text front (outside_of c))
     (ordered_none d.text (with_tree r new) at none ordered.within (heading_ordered h.innermost heads tokens ordered))

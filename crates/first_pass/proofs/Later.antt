@@ -11,7 +11,7 @@ use Rattle.first_pass_order.proofs.LeftOrder.{title_later}
 use Rattle.first_pass_order.proofs.Nests.{tree_closes}
 use Rattle.first_pass_order.proofs.OrderLemmas.{ordered_at_later, ordered_with, top_there}
 use Rattle.first_pass_order.proofs.RowSplits.{current_child}
-use Rattle.first_pass.specs.Closable.{HasEndedBy, LastEndsBy}
+use Rattle.first_pass.specs.Adding.{HasEndedBy, LastEndsBy}
 
 -- no marker of a paragraph or heading is after its first sibling
 lead_first : (text : List ℕ) (w : Within) (from : ℕ) (x : Ranged) → IsLead text (beyond w) from x → ⊥

@@ -1,8 +1,8 @@
 pub mod Added
+pub mod Adding
 pub mod BetweenCalls
 pub mod CallsNamed
 pub mod Chains
-pub mod Closable
 pub mod CutOrder
 pub mod Later
 pub mod LineLengths

@@ -12,10 +12,10 @@ use Rattle.first_pass_grammar.proofs.Order.Orders.{extents-append, laid-one, lai
 use Rattle.first_pass_blocks.proofs.Common.{begun_item, is_list, PassState, reached, ordered_later, ordered_none}
 use Rattle.first_pass_lists.specs.Closing.{begun, with_block}
 use Rattle.first_pass_order.proofs.OrderLemmas.{top_there}
-use Rattle.first_pass.specs.Closable.{IsClosable}
+use Rattle.first_pass.specs.Adding.{MayAddAt}
 use Rattle.first_pass.specs.Views.{with_tree}
-use Rattle.first_pass.proofs.BetweenCalls.{closable_begun}
-use Rattle.first_pass.proofs.Closable.{appended_outside, closable_by, outside_of}
+use Rattle.first_pass.proofs.BetweenCalls.{may_add_begun}
+use Rattle.first_pass.proofs.Adding.{appended_outside, may_add_by, outside_of}
 
 -- a block with text is no item and no list
 text_is : (body : ItemBody) → is_text_block body ≡ true → (is_list_item body ≡ false) × (is_list (Some body) ≡ false)
@@ -104,9 +104,9 @@ module _ (text : List ℕ) (r : PassState) (at from start : ℕ) (body : ItemBod
         whole = o.whole;
       }
 
-  pub marked_closable : IsClosable text r at → at ≤ from → is_in_item r.tree ≡ true → is_text_block body ≡ true → IsCharBoundary text start
-      → is_task_marker m.body ≡ true → IsBetween text from start (extent_of m) → IsClosable text (with_tree opened marked) start
-  marked_closable c early inside is_text starts marker b =
+  pub marked_may_add : MayAddAt text r at → at ≤ from → is_in_item r.tree ≡ true → is_text_block body ≡ true → IsCharBoundary text start
+      → is_task_marker m.body ≡ true → IsBetween text from start (extent_of m) → MayAddAt text (with_tree opened marked) start
+  marked_may_add c early inside is_text starts marker b =
       let first = b.following in
       let order = b.order in
       let last = b.before in
@@ -114,6 +114,6 @@ module _ (text : List ℕ) (r : PassState) (at from start : ℕ) (body : ItemBod
       let before = c.read.0.later in
       let within = starts.0 in
       let o = ordered_later text r.tree (reached r.begin_list_item at) from (omega arith) (omega arith) c.read.0.ordered in
-      let outside = outside_of (closable_begun text r at start body c (omega arith) starts (text_is body is_text).1) in
-      closable_by text (with_tree opened marked) marked start refl (appended_outside opened.tree m outside)
+      let outside = outside_of (may_add_begun text r at start body c (omega arith) starts (text_is body is_text).1) in
+      may_add_by text (with_tree opened marked) marked start refl (appended_outside opened.tree m outside)
       (ordered_none text (with_tree opened marked) start refl within (marked_ordered inside is_text low starts marker b o))

@@ -17,9 +17,9 @@ use Rattle.first_pass_tables.proofs.RowPlaces.{begins_row}
 use Rattle.first_pass_names.specs.TableEntries.{AddsTexts}
 use Rattle.first_pass.specs.declared.state.FirstPass.{FirstPass}
 use Rattle.first_pass.specs.Calls.{ReadsRowFrom}
-use Rattle.first_pass.specs.Closable.{IsClosable}
+use Rattle.first_pass.specs.Adding.{MayAddAt}
 use Rattle.first_pass.specs.Holds.{after_row, IsTableOpen}
-use Rattle.first_pass.proofs.Closable.{IsOutside, closable_by, no_empty_item, outside_of, table_closed}
+use Rattle.first_pass.proofs.Adding.{IsOutside, may_add_by, no_empty_item, outside_of, table_closed}
 use Rattle.first_pass.specs.Kept.{KeepsEntries}
 use Rattle.first_pass.specs.Views.{allocs_of, source_text, state_of, tree_of, with_tree}
 use Rattle.first_pass_order.proofs.OrderLemmas.{ordered_added, ordered_closed}
@@ -87,13 +87,13 @@ row_read old new ix row kept texts state within same ends stops fits = record {
   state = state;
   boundary = λ begins. row_boundary_by (source_text old) ix row begins (stops begins);
   order = λ begins at low o. row_ordered (source_text old) (tree_of old) (tree_of new) at ix row low within same ends (fits begins at low) o;
-  closable = λ table begins at low h.
+  may_add = λ table begins at low h.
       let none = no_empty_item (source_text old) (state_of old) at h.read.0 (ap is_item table.1) in
       let o = row_ordered (source_text old) (tree_of old) (tree_of new) at ix row low within same ends (fits begins at low)
       (ordered_tree (source_text old) (state_of old) at none h.read.0) in
       let here : ix ≤ ix = omega arith in
       let added = row_added (source_text old) (tree_of old) (tree_of new) ix row same (fits begins ix here) (outside_of h) in (
-        closable_by (source_text old) (state_of new) (tree_of new) (after_row row ix) refl added.0
+        may_add_by (source_text old) (state_of new) (tree_of new) (after_row row ix) refl added.0
             (ordered_none (source_text old) (state_of new) (after_row row ix) (ap (λ (r : PassState). r.begin_list_item) state ∙ none) o.within o),
         (table.0, added.1 ∙ table.1),
       );
@@ -127,15 +127,15 @@ rows_count {text = text} {old = old} {new = new} {from = from} {next = next} {ix
     omega arith
 
 -- the open nodes can still be closed
-pub rows_closable : {text : List ℕ} {old new : PassState} {at next : ℕ} {ix : TreeIndex} → IsJustPushed old.tree ix → IsCharBoundary text next
-    → ClosesBetween text at next old.tree new.tree → new.begin_list_item ≡ old.begin_list_item → IsTableOpen old.tree → IsClosable text old at
-    → IsClosable text new next
-rows_closable {text = text} {old = old} {new = new} {at = at} {next = next} {ix = ix} pushed ends c same table h =
+pub rows_may_add : {text : List ℕ} {old new : PassState} {at next : ℕ} {ix : TreeIndex} → IsJustPushed old.tree ix → IsCharBoundary text next
+    → ClosesBetween text at next old.tree new.tree → new.begin_list_item ≡ old.begin_list_item → IsTableOpen old.tree → MayAddAt text old at
+    → MayAddAt text new next
+rows_may_add {text = text} {old = old} {new = new} {at = at} {next = next} {ix = ix} pushed ends c same table h =
     let f : Forest Item = old.tree in
     let is = pushed.innermost in
     let none = no_empty_item text old at h.read.0 (ap is_item table.1) in
     let body : body_at f.nodes ix.0 ≡ Some (Table table.0) = ap (λ (s : List TreeIndex). top_of f.nodes s) (sym is) ∙ table.1 in
     let nested : AreNested f.nodes (ix ∷ pushed.rest) = subst (AreNested f.nodes) is h.read.1.nested in
-    closable_by text new (closed_by (with_below f c.items) next (ix ∷ pushed.rest)) next (closed_is text f new.tree at next ix pushed c)
+    may_add_by text new (closed_by (with_below f c.items) next (ix ∷ pushed.rest)) next (closed_is text f new.tree at next ix pushed c)
     (table_closed f.nodes (at_depth (length f.spine + 1) c.items) ix pushed.rest next table.0 body nested)
     (ordered_none text new next (same ∙ none) ends.0 (rows_ordered pushed ends c (ordered_tree text old at none h.read.0)))

@@ -44,7 +44,7 @@ use Rattle.first_pass_blocks.specs.Progress.{ReadsBlock}
 use Rattle.first_pass_blocks.specs.Written.{HasFirstLabels}
 use Rattle.first_pass_ready.specs.State.{Ready}
 use Rattle.first_pass.specs.declared.state.FirstPass.{FirstPass}
-use Rattle.first_pass.specs.Closable.{IsClosable}
+use Rattle.first_pass.specs.Adding.{MayAddAt}
 use Rattle.first_pass.specs.Holds.{after_row, ContinuesChain, HoldsChain, IsTableOpen}
 use Rattle.first_pass.specs.Lines.{ReadsInMode}
 use Rattle.first_pass.specs.Kept.{StayNamed, StayWhole, KeepsEntries, KeepsNames, KeepsTables}
@@ -58,7 +58,7 @@ pub record StartsPass (text : List ℕ) (options : Options) (pass : FirstPass) :
   pub options_are : source_options pass ≡ options
   pub empty : tables_of (allocs_of pass) ≡ no_tables
   pub ready : (names : Names) → Ready (document text options names) no_tables (state_of pass) (lines_from text 0)
-  pub closable : IsClosable text (state_of pass) 0
+  pub may_add : MayAddAt text (state_of pass) 0
   pub root : length (tree_of pass).nodes ≡ 1
   pub named : AreNamed (names_of (allocs_of pass)) (tree_of pass).nodes
   pub labels : HasFirstLabels (allocs_of pass) (tree_of pass).nodes
@@ -111,8 +111,8 @@ pub record AddsLeafBlock (old new : FirstPass) (start next : ℕ) (blank : Bool)
   pub fits : (from : ℕ) → from ≤ start → IsCharBoundary (source_text old) start → AddsBetween (source_text old) from next (tree_of old) (tree_of new)
   pub order : (at : ℕ) → at ≤ start → IsCharBoundary (source_text old) start → IsOrderedAt (source_text old) (state_of old) at
       → IsOrderedAt (source_text old) (state_of new) next
-  pub closable : (at : ℕ) → at ≤ start → IsCharBoundary (source_text old) start → IsClosable (source_text old) (state_of old) at
-      → IsClosable (source_text old) (state_of new) next
+  pub may_add : (at : ℕ) → at ≤ start → IsCharBoundary (source_text old) start → MayAddAt (source_text old) (state_of old) at
+      → MayAddAt (source_text old) (state_of new) next
 
 -- the same for a block of whole lines, counted from its first character: reading continues at a character boundary,
 -- after the block's first line or later (CommonMark 4.4 to 4.6, and this project)
@@ -169,7 +169,7 @@ pub record AddsHtmlToBlank (old new : FirstPass) (start columns next : ℕ) : Ty
       → AddsBetween (source_text old) from (html_to_blank (source_text old) (context_in old).path p).«end» (tree_of old) (tree_of new)
   pub order : (at : ℕ) → at ≤ start → IsOrderedAt (source_text old) (state_of old) at
       → IsOrderedFrom (source_options old) (source_text old) (state_of new) next
-  pub closable : (at : ℕ) → at ≤ start → IsClosable (source_text old) (state_of old) at
+  pub may_add : (at : ℕ) → at ≤ start → MayAddAt (source_text old) (state_of old) at
       → IsReadFrom (source_options old) (source_text old) (state_of new) next × (is_list (top_body (tree_of new)) ≡ false)
   pub node_bound : (from : ℕ) → from ≤ start → from < next → GrowsBy from next (tree_of old).nodes (tree_of new).nodes
 
@@ -184,8 +184,8 @@ pub record AddsRule (old new : FirstPass) (ix size next : ℕ) : Type 0 where
       → AddsBetween (source_text old) from (ix + size) (tree_of old) (tree_of new)
   pub order : (at : ℕ) → at ≤ ix → IsCharBoundary (source_text old) ix → IsCharBoundary (source_text old) (ix + size)
       → IsOrderedAt (source_text old) (state_of old) at → IsOrderedAt (source_text old) (state_of new) next
-  pub closable : (at : ℕ) → at ≤ ix → IsCharBoundary (source_text old) ix → IsCharBoundary (source_text old) (ix + size)
-      → IsClosable (source_text old) (state_of old) at → IsClosable (source_text old) (state_of new) next
+  pub may_add : (at : ℕ) → at ≤ ix → IsCharBoundary (source_text old) ix → IsCharBoundary (source_text old) (ix + size)
+      → MayAddAt (source_text old) (state_of old) at → MayAddAt (source_text old) (state_of new) next
   pub following : next ≡ ix + size
   pub boundary : hrule_len (drop ix (source_text old)) ≡ Some size → IsCharBoundary (source_text old) ix → IsCharBoundary (source_text old) next
 
@@ -205,8 +205,8 @@ pub record AddsParagraph (old new : FirstPass) (start : ℕ) (marker : Option It
       → AddsBetween (source_text old) from next (tree_of old) (tree_of new)
   pub order : MarkerIsInItem (tree_of old) marker → (at : ℕ) → MarkerBetween (source_text old) at start marker
       → IsOrderedAt (source_text old) (state_of old) at → IsOrderedAt (source_text old) (state_of new) next
-  pub closable : MarkerIsInItem (tree_of old) marker → (at : ℕ) → MarkerBetween (source_text old) at start marker
-      → IsClosable (source_text old) (state_of old) at → IsClosable (source_text old) (state_of new) next
+  pub may_add : MarkerIsInItem (tree_of old) marker → (at : ℕ) → MarkerBetween (source_text old) at start marker
+      → MayAddAt (source_text old) (state_of old) at → MayAddAt (source_text old) (state_of new) next
 
 -- A raw line between two offsets is appended, after the columns owed before it. The state is in order up to the line's
 -- end if both offsets are character boundaries, and its open nodes can still be closed. Whole tables stay whole (this
@@ -218,8 +218,8 @@ pub record AppendsRawLine (kind : RawKind) (old new : FirstPass) (owed start «e
   pub state : state_of new ≡ with_block (state_of old) (tree_of new)
   pub order : (at : ℕ) → at ≤ start → IsCharBoundary (source_text old) start → IsCharBoundary (source_text old) «end»
       → IsOrderedAt (source_text old) (state_of old) at → IsOrderedAt (source_text old) (state_of new) «end»
-  pub closable : (at : ℕ) → at ≤ start → IsCharBoundary (source_text old) start → IsCharBoundary (source_text old) «end»
-      → IsClosable (source_text old) (state_of old) at → IsClosable (source_text old) (state_of new) «end»
+  pub may_add : (at : ℕ) → at ≤ start → IsCharBoundary (source_text old) start → IsCharBoundary (source_text old) «end»
+      → MayAddAt (source_text old) (state_of old) at → MayAddAt (source_text old) (state_of new) «end»
 
 -- The tokens between two offsets of a text, which may be cut at `end`, are appended: at most one for each byte, and in
 -- order if the first offset and the cut are character boundaries. The second offset then is one, too. The item to which
@@ -231,8 +231,8 @@ pub record AppendsTokens (old new : FirstPass) (start : ℕ) (end : Option ℕ) 
   pub boundary : IfSome end (λ e. IsCharBoundary (source_text old) e) → IsCharBoundary (source_text old) start → IsCharBoundary (source_text old) stop
   pub order : IfSome end (λ e. IsCharBoundary (source_text old) e) → IsCharBoundary (source_text old) start → (at : ℕ) → at ≤ start
       → IsOrderedAt (source_text old) (state_of old) at → IsOrderedAt (source_text old) (state_of new) stop
-  pub closable : IfSome end (λ e. IsCharBoundary (source_text old) e) → IsCharBoundary (source_text old) start → (at : ℕ) → at ≤ start
-      → IsClosable (source_text old) (state_of old) at → IsClosable (source_text old) (state_of new) stop
+  pub may_add : IfSome end (λ e. IsCharBoundary (source_text old) e) → IsCharBoundary (source_text old) start → (at : ℕ) → at ≤ start
+      → MayAddAt (source_text old) (state_of old) at → MayAddAt (source_text old) (state_of new) stop
   pub node_bound : length (tree_of new).nodes ≤ length (tree_of old).nodes + (stop - start)
 
 -- What a line that is read, with the returned line break, does to the open nodes, if its ends are character boundaries.
@@ -241,8 +241,8 @@ pub record AppendsTokens (old new : FirstPass) (start : ℕ) (end : Option ℕ) 
 -- (CommonMark 6.7, 6.8, and this project).
 pub record ContinuesBlock (old new : FirstPass) (start : ℕ) (end : Option ℕ) (answer : ℕ × Option Item) : Type 0 where
   pub broken : IfSome end (λ e. IsCharBoundary (source_text old) e) → IsCharBoundary (source_text old) start → (at : ℕ) → at ≤ start
-      → IsClosable (source_text old) (state_of old) at
-      → IfSome answer.1 (λ x. is_break x.body ≡ true → IsClosable (source_text old) (with_tree (state_of new) (appended (tree_of new) x)) answer.0)
+      → MayAddAt (source_text old) (state_of old) at
+      → IfSome answer.1 (λ x. is_break x.body ≡ true → MayAddAt (source_text old) (with_tree (state_of new) (appended (tree_of new) x)) answer.0)
   pub chain : IfSome end (λ e. IsCharBoundary (source_text old) e) → IsCharBoundary (source_text old) start → (block : TreeIndex) (to : ℕ)
       → to ≤ start → HoldsChain (source_text old) (tree_of old) block to → ContinuesChain (source_text old) (tree_of new) block answer
 
@@ -270,8 +270,8 @@ pub record ClosesTable (old new : FirstPass) (columns head_start body_start next
       next
   pub order : (at : ℕ) → at ≤ head_start → line_end_at (source_text old) head_start ≤ body_start → IsOrderedTo (source_text old) (tree_of old) at
       → IsOrderedTo (source_text old) (tree_of new) next
-  pub closable : IsTableOpen (tree_of old) → (at : ℕ) → at ≤ head_start → line_end_at (source_text old) head_start ≤ body_start
-      → IsClosable (source_text old) (state_of old) at → IsClosable (source_text old) (state_of new) next
+  pub may_add : IsTableOpen (tree_of old) → (at : ℕ) → at ≤ head_start → line_end_at (source_text old) head_start ≤ body_start
+      → MayAddAt (source_text old) (state_of old) at → MayAddAt (source_text old) (state_of new) next
   pub node_bound : (from : ℕ) → from ≤ head_start → line_end_at (source_text old) head_start ≤ body_start → from < next
       → GrowsBy from next (tree_of old).nodes (tree_of new).nodes
   pub tables : AddsWholeRows (document (source_text old) (source_options old) (names_of (allocs_of new))) columns head_start (tree_of old) (tree_of new) next
@@ -290,8 +290,8 @@ pub record ReadsRowFrom (old new : FirstPass) (ix next : ℕ) : Type 0 where
   pub boundary : IsCharBoundary (source_text old) ix → IsCharBoundary (source_text old) next
   pub order : IsCharBoundary (source_text old) ix → (at : ℕ) → at ≤ ix → IsOrderedTo (source_text old) (tree_of old) at
       → IsOrderedTo (source_text old) (tree_of new) next
-  pub closable : IsTableOpen (tree_of old) → IsCharBoundary (source_text old) ix → (at : ℕ) → at ≤ ix
-      → IsClosable (source_text old) (state_of old) at → IsClosable (source_text old) (state_of new) next × IsTableOpen (tree_of new)
+  pub may_add : IsTableOpen (tree_of old) → IsCharBoundary (source_text old) ix → (at : ℕ) → at ≤ ix
+      → MayAddAt (source_text old) (state_of old) at → MayAddAt (source_text old) (state_of new) next × IsTableOpen (tree_of new)
   pub open_node : IsCharBoundary (source_text old) ix → IsOpenNode (tree_of old) → IsOpenNode (tree_of new)
   pub node_bound : IsCharBoundary (source_text old) ix → (from : ℕ) → from ≤ ix → from < next → GrowsBy from next (tree_of old).nodes (tree_of new).nodes
 
@@ -319,7 +319,7 @@ pub record OpensFootnote (old new : FirstPass) (start : ℕ) (size : Option ℕ)
   pub head : ReadsFootnote (pass_of old) (pass_of new) start size
   pub none : size ≡ None → StaysSame (pass_of old) (pass_of new)
   pub within : IfSome size (λ n. (3 < n) × IsCharBoundary (source_text old) (start + n))
-  pub closable : IfSome size (λ n. (at : ℕ) → at ≤ start → IsReadTo (source_text old) (state_of old) at → IsClosable (source_text old) (state_of new) start)
+  pub may_add : IfSome size (λ n. (at : ℕ) → at ≤ start → IsReadTo (source_text old) (state_of old) at → MayAddAt (source_text old) (state_of new) start)
 
 -- The head of a footnote definition is sought at an offset, and opened if one begins there. The text and the options
 -- are the same, also after an error (this project).

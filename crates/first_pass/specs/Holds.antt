@@ -25,7 +25,7 @@ use Rattle.first_pass_open.specs.Path.{path_of}
 use Rattle.first_pass_lists.specs.Closing.{top_body}
 use Rattle.first_pass_leaves.specs.CutTexts.{BecomesHeading}
 use Rattle.first_pass.specs.declared.state.FirstPass.{FirstPass}
-use Rattle.first_pass.specs.Closable.{IsClosable}
+use Rattle.first_pass.specs.Adding.{MayAddAt}
 use Rattle.first_pass.specs.Kept.{KeepsNames}
 use Rattle.first_pass.specs.Views.{allocs_of, state_of, source_options, source_text, tree_of, with_tree}
 
@@ -121,5 +121,5 @@ pub record MakesHeading (old new : FirstPass) (ix : ℕ) (block : TreeIndex) (br
   pub node_bound : length (tree_of new).nodes ≤ length (tree_of old).nodes
   pub order : (at : ℕ) → HoldsTokens (source_text old) (tree_of old) block → IsOrderedTo (source_text old) (tree_of old) at
       → IsOrderedTo (source_text old) (tree_of new) at
-  pub closable : (at to : ℕ) → HoldsChain (source_text old) (tree_of old) block to → IsClosable (source_text old) (state_of old) at
-      → IsClosable (source_text old) (state_of new) at
+  pub may_add : (at to : ℕ) → HoldsChain (source_text old) (tree_of old) block to → MayAddAt (source_text old) (state_of old) at
+      → MayAddAt (source_text old) (state_of new) at

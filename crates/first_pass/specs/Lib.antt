@@ -1,5 +1,5 @@
+pub mod Adding
 pub mod Calls
-pub mod Closable
 pub mod Holds
 pub mod Interrupts
 pub mod Kept

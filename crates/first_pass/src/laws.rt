@@ -1,6 +1,6 @@
 //! Laws of the contents of an open paragraph, of the order and the nodes of a pass between two calls, and of dashes.
 
-ghost use Rattle.first_pass.specs.Closable.{HasEndedBy, IsClosable};
+ghost use Rattle.first_pass.specs.Adding.{HasEndedBy, MayAddAt};
 ghost use Rattle.first_pass.specs.Holds.{HoldsChain, HoldsText, HoldsTokens};
 ghost use Rattle.first_pass.specs.Views.{with_tree};
 ghost use Rattle.first_pass_grammar.specs.Counting.{counted_nodes, inserted_cells, is_row};
@@ -43,12 +43,12 @@ pub fn block_begins()
         → IsJustPushed (begun start body r).tree (record { 0 = length r.tree.nodes })
         × IsOpenNode (begun start body r).tree }
     ensures innermost { (start : ℕ) (body : ItemBody) (r : PassState) → top_body (begun start body r).tree ≡ Some body }
-    ensures closable { (text : List ℕ) (r : PassState) (at start : ℕ) (body : ItemBody) → IsClosable text r at
+    ensures may_add { (text : List ℕ) (r : PassState) (at start : ℕ) (body : ItemBody) → MayAddAt text r at
         → at ≤ start → IsCharBoundary text start → is_list (Some body) ≡ false
-        → IsClosable text (begun start body (with_block r r.tree)) start }
+        → MayAddAt text (begun start body (with_block r r.tree)) start }
     ensures item { (text : List ℕ) (r : PassState) (at start : ℕ) (body : ItemBody) → IsReadTo text r at → at ≤ start
         → IsCharBoundary text start → is_item (Some body) ≡ true
-        → IsClosable text (begun start body (with_block r r.tree)) start }
+        → MayAddAt text (begun start body (with_block r r.tree)) start }
     ensures whole { (names : Names) (start : ℕ) (body : ItemBody) (r : PassState) → ShowsNothing body
         → (is_row body || may_be_title body) ≡ false → HasWholeTables names r.tree
         → HasWholeTables names (begun start body r).tree }
@@ -56,10 +56,10 @@ pub fn block_begins()
         → IsCharBoundary text start
         → HoldsChain text (begun start body r).tree (record { 0 = length r.tree.nodes }) start }
     ensures marked { (text : List ℕ) (r : PassState) (at from start : ℕ) (body : ItemBody) (marker : Item)
-        → IsClosable text r at → at ≤ from → MarkerIsInItem r.tree (Some marker)
+        → MayAddAt text r at → at ≤ from → MarkerIsInItem r.tree (Some marker)
         → MarkerBetween text from start (Some marker) → is_text_block body ≡ true → IsCharBoundary text start
         → let opened = begun start body (with_block r r.tree) in
-        IsClosable text (with_tree opened (appended opened.tree marker)) start
+        MayAddAt text (with_tree opened (appended opened.tree marker)) start
         × HoldsChain text (appended opened.tree marker) (record { 0 = length r.tree.nodes }) start }
 {}
 

@@ -3,7 +3,7 @@ use Rattle.std.proofs.Common.{◌≡◌, ◌≤◌, ℕ, List, Option, Some, IfS
 use Rattle.first_pass_open.specs.declared.source.Source.{Source}
 use Rattle.first_pass_order.specs.Ordered.{IsReadFrom}
 use Rattle.first_pass.specs.declared.state.FirstPass.{FirstPass}
-use Rattle.first_pass.specs.Closable.{IsClosable}
+use Rattle.first_pass.specs.Adding.{MayAddAt}
 use Rattle.first_pass.specs.Views.{source_of, source_options, source_text, state_of}
 use Rattle.first_pass_client.specs.Places.{MayAdd, MayRead}
 
@@ -14,16 +14,16 @@ given o x P is h = subst (λ o. IfSome o P) is h
 pub same_text : (old new : FirstPass) → source_of new ≡ source_of old → source_text old ≡ source_text new
 same_text old new same = sym (ap (λ (s : Source). s.text.now) same)
 
-pub may_add : (old new : FirstPass) (from at : ℕ) → source_of new ≡ source_of old → from ≤ at → IsClosable (source_text old) (state_of new) from
+pub may_add : (old new : FirstPass) (from at : ℕ) → source_of new ≡ source_of old → from ≤ at → MayAddAt (source_text old) (state_of new) from
     → IsCharBoundary (source_text old) at → MayAdd new at
 may_add old new from at same low order boundary = record {
   from = from;
   low = low;
-  order = subst (λ (t : List ℕ). IsClosable t (state_of new) from) (same_text old new same) order;
+  order = subst (λ (t : List ℕ). MayAddAt t (state_of new) from) (same_text old new same) order;
   boundary = subst (λ (t : List ℕ). IsCharBoundary t at) (same_text old new same) boundary;
 }
 
-pub may_add_here : (old new : FirstPass) (at : ℕ) → source_of new ≡ source_of old → IsClosable (source_text old) (state_of new) at
+pub may_add_here : (old new : FirstPass) (at : ℕ) → source_of new ≡ source_of old → MayAddAt (source_text old) (state_of new) at
     → IsCharBoundary (source_text old) at → MayAdd new at
 may_add_here old new at same order boundary = may_add old new at at same (omega arith) order boundary
 

@@ -5,7 +5,7 @@ use Rattle.first_pass_open.specs.OpenBlock.{IsJustPushed}
 use Rattle.first_pass_tables.specs.Appends.{IsOpenNode}
 use Rattle.first_pass_order.specs.Ordered.{IsReadFrom, IsReadTo}
 use Rattle.first_pass.specs.declared.state.FirstPass.{FirstPass}
-use Rattle.first_pass.specs.Closable.{IsClosable}
+use Rattle.first_pass.specs.Adding.{MayAddAt}
 use Rattle.first_pass.specs.Holds.{HoldsChain, IsTableOpen}
 use Rattle.first_pass.specs.Views.{source_options, source_text, state_of, tree_of}
 
@@ -25,7 +25,7 @@ pub record MayClose (pass : FirstPass) (at : ℕ) : Type 0 where
 pub record MayAdd (pass : FirstPass) (at : ℕ) : Type 0 where
   pub from : ℕ
   pub low : from ≤ at
-  pub order : IsClosable (source_text pass) (state_of pass) from
+  pub order : MayAddAt (source_text pass) (state_of pass) from
   pub boundary : IsCharBoundary (source_text pass) at
 
 -- A place in a block with text that is open and contains a chain up to there or up to an offset before it.

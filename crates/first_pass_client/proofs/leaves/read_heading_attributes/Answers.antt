@@ -6,4 +6,4 @@ returns c =
     let h = c.requires in
     let e = c.in_ok-next.ensures in
     may_add_here c.args.pass.now c.parse_atx_heading.new.self c.in_ok-next.next e.leaf.kept.entries.source
-    (e.leaf.closable h.from h.low h.boundary h.order) (e.boundary h.boundary)
+    (e.leaf.may_add h.from h.low h.boundary h.order) (e.boundary h.boundary)

@@ -1,7 +1,7 @@
 use Rattle.std.proofs.Common.{refl, sym, subst, arith}
 use Rattle.first_pass_items.specs.declared.item.ItemBody.TheVariants.{ListItem}
 use Rattle.first_pass_lists.specs.declared.state.PassState.{PassState}
-use Rattle.first_pass.specs.Closable.{IsClosable}
+use Rattle.first_pass.specs.Adding.{MayAddAt}
 use Rattle.first_pass_client.proofs.lists.open_item.Goals as goal
 
 pub returns : goal.returns
@@ -13,7 +13,7 @@ returns c =
     record {
       from = at;
       low = omega arith;
-      order = subst (λ (r : PassState). IsClosable text r at) (sym c.in_ok-open_block.ensures.0)
+      order = subst (λ (r : PassState). MayAddAt text r at) (sym c.in_ok-open_block.ensures.0)
           (c.block_begins.ensures.item text old h.from at (ListItem c.args.columns) h.order h.low h.boundary refl);
       boundary = h.boundary;
     }

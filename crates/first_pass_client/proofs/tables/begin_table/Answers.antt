@@ -4,7 +4,7 @@ use Rattle.first_pass_lists.specs.Closing.{top_body, with_block}
 use Rattle.first_pass_lists.specs.declared.state.PassState.{PassState}
 use Rattle.first_pass_open.specs.OpenBlock.{IsJustPushed}
 use Rattle.first_pass_tables.specs.Appends.{IsOpenNode}
-use Rattle.first_pass.specs.Closable.{IsClosable}
+use Rattle.first_pass.specs.Adding.{MayAddAt}
 use Rattle.first_pass_client.proofs.tables.begin_table.Goals as goal
 
 pub returns : goal.returns
@@ -21,8 +21,8 @@ returns c =
         place = record {
           from = at;
           low = omega arith;
-          order = subst (λ (r : PassState). IsClosable text r at) (sym state_is)
-              (law.closable text old h.from at (Table c.args.alignments) h.order h.low h.boundary refl);
+          order = subst (λ (r : PassState). MayAddAt text r at) (sym state_is)
+              (law.may_add text old h.from at (Table c.args.alignments) h.order h.low h.boundary refl);
           boundary = h.boundary;
         };
         table = (

@@ -1,5 +1,5 @@
 use Rattle.std.proofs.Common.{◌≡◌, ℕ, List, IsCharBoundary, ap, subst, arith}
-use Rattle.first_pass.specs.Closable.{IsClosable}
+use Rattle.first_pass.specs.Adding.{MayAddAt}
 use Rattle.first_pass.specs.Holds.{after_row}
 use Rattle.first_pass_client.proofs.Moves.{same_text}
 use Rattle.first_pass_client.proofs.tables.read_row_inner.Goals as goal
@@ -12,14 +12,14 @@ returns c =
     let at = c.args.at in
     let e = c.in_ok-end.ensures.reads in
     let ends : after_row c.in_ok-end.field-0 at ≡ c.in-Some.end = ap (λ r. after_row r at) c.in-Some.is in
-    let both = e.closable c.requires.table h.boundary h.from h.low h.order in
+    let both = e.may_add c.requires.table h.boundary h.from h.low h.order in
     let same = same_text c.args.pass.now new e.kept.source in
     record {
       place = record {
         from = c.in-Some.end;
         low = omega arith;
-        order = subst (λ (t : List ℕ). IsClosable t new.pass.state c.in-Some.end) same
-            (subst (λ (k : ℕ). IsClosable text new.pass.state k) ends both.0);
+        order = subst (λ (t : List ℕ). MayAddAt t new.pass.state c.in-Some.end) same
+            (subst (λ (k : ℕ). MayAddAt text new.pass.state k) ends both.0);
         boundary = subst (λ (t : List ℕ). IsCharBoundary t c.in-Some.end) same
             (subst (λ (k : ℕ). IsCharBoundary text k) ends (e.boundary h.boundary));
       };

@@ -3,7 +3,7 @@ use Rattle.first_pass_items.specs.declared.item.ItemBody.TheVariants.{Paragraph}
 use Rattle.first_pass_lists.specs.Closing.{begun, with_block}
 use Rattle.first_pass_lists.specs.declared.state.PassState.{PassState}
 use Rattle.first_pass_tree.specs.declared.tree_index.TreeIndex.{TreeIndex}
-use Rattle.first_pass.specs.Closable.{IsClosable}
+use Rattle.first_pass.specs.Adding.{MayAddAt}
 use Rattle.first_pass.specs.Holds.{HoldsChain}
 use Rattle.first_pass_client.proofs.texts.begin_text.Goals as goal
 
@@ -20,7 +20,7 @@ returns c =
       place = record {
         from = at;
         low = omega arith;
-        order = subst (λ (r : PassState). IsClosable text r at) (sym state_is) (law.closable text old h.from at Paragraph h.order h.low h.boundary refl);
+        order = subst (λ (r : PassState). MayAddAt text r at) (sym state_is) (law.may_add text old h.from at Paragraph h.order h.low h.boundary refl);
         boundary = h.boundary;
       };
       to = at;

@@ -9,7 +9,7 @@ returns-in_default c =
     let h = c.requires.place in
     let e = c.in_ok-next.ensures in
     may_add c.args.pass.now c.parse_setext_heading.new.self h.from c.args.at e.kept.entries.source h.low
-    (e.closable h.from c.requires.to c.requires.chain h.order) h.boundary
+    (e.may_add h.from c.requires.to c.requires.chain h.order) h.boundary
 
 pub returns : goal.returns
 returns c =
@@ -18,4 +18,4 @@ returns c =
     let next = c.in-Some.next in
     let ends : next ≡ line_end_at (source_text c.args.pass.now) c.args.at = given c.in_ok-next.field-0 next _ c.in-Some.is e.line_end in
     may_add c.args.pass.now c.parse_setext_heading.new.self h.from next e.kept.entries.source (omega arith)
-    (e.closable h.from c.requires.to c.requires.chain h.order) (given c.in_ok-next.field-0 next _ c.in-Some.is (e.boundary h.boundary))
+    (e.may_add h.from c.requires.to c.requires.chain h.order) (given c.in_ok-next.field-0 next _ c.in-Some.is (e.boundary h.boundary))

@@ -2,7 +2,7 @@ use Rattle.std.proofs.Common.{◌≡◌, ℕ, List, true, IsCharBoundary, sym, s
 use Rattle.first_pass_lists.specs.declared.state.PassState.{PassState}
 use Rattle.first_pass_tokens.specs.LineTokens.{is_break}
 use Rattle.first_pass_tree.specs.Forest.{appended}
-use Rattle.first_pass.specs.Closable.{IsClosable}
+use Rattle.first_pass.specs.Adding.{MayAddAt}
 use Rattle.first_pass.specs.Holds.{HoldsChain}
 use Rattle.first_pass.specs.Views.{source_text, state_of, tree_of, with_tree}
 use Rattle.first_pass_client.proofs.Moves.{given, may_add_here, same_text}
@@ -16,7 +16,7 @@ returns-in_default c =
     let e = c.in_ok-next.ensures in
     let same = e.tokens.kept.source in
     record {
-      place = may_add_here old new c.in_ok-next.next same (e.tokens.closable tt h.boundary h.from h.low h.order) (e.tokens.boundary tt h.boundary);
+      place = may_add_here old new c.in_ok-next.next same (e.tokens.may_add tt h.boundary h.from h.low h.order) (e.tokens.boundary tt h.boundary);
       to = c.in_ok-next.next;
       near = omega arith;
       chain = subst (λ (t : List ℕ). HoldsChain t (tree_of new) c.args.block c.in_ok-next.next) (same_text old new same)
@@ -39,8 +39,8 @@ returns c =
       place = record {
         from = next;
         low = omega arith;
-        order = subst (λ (t : List ℕ). IsClosable t state next) texts
-            (subst (λ (r : PassState). IsClosable (source_text old) r next) (sym is)
+        order = subst (λ (t : List ℕ). MayAddAt t state next) texts
+            (subst (λ (r : PassState). MayAddAt (source_text old) r next) (sym is)
             (given c.in_ok-next.line_break x _ c.in-Some.is (e.block.broken tt h.boundary h.from h.low h.order) kind));
         boundary = subst (λ (t : List ℕ). IsCharBoundary t next) texts (e.tokens.boundary tt h.boundary);
       };

@@ -3,7 +3,7 @@ use Rattle.first_pass_grammar.proofs.Common.{document}
 use Rattle.first_pass_blocks.proofs.Common.{no_names, PassState, ordered_none}
 use Rattle.first_pass_tokens.proofs.BytesLemmas.{few_of_cell}
 use Rattle.first_pass.proofs.CallsNamed.{cell_named}
-use Rattle.first_pass.proofs.Closable.{closable_tokens}
+use Rattle.first_pass.proofs.Adding.{may_add_tokens}
 use Rattle.first_pass.proofs.OrderJoin.{IsRange, both_ends, cell_ends, state_before, ordered_cell}
 use Rattle.first_pass.proofs.TablesWhole.{cell_whole}
 use Rattle.first_pass.proofs.state.FirstPass.append_cell_content.Goals as goal
@@ -31,10 +31,10 @@ returns c =
             let to = ordered_cell (document text options no_names) self.braces c.args.start c.args.end old.tree new.tree stop (range ends boundary)
             (state_before text old at c.args.start c.recall_forest.ensures o low) e.cell in
             ordered_none text new stop refl to.within to;
-        closable = λ ends boundary at low h.
+        may_add = λ ends boundary at low h.
             let to = ordered_cell (document text options no_names) self.braces c.args.start c.args.end old.tree new.tree stop (range ends boundary)
             (state_before text old at c.args.start c.recall_forest.ensures h.read.0 low) e.cell in
-            closable_tokens text old new at stop e.cell.tokens e.cell.tree_is h (ordered_none text new stop refl to.within to);
+            may_add_tokens text old new at stop e.cell.tokens e.cell.tree_is h (ordered_none text new stop refl to.within to);
         node_bound = few_of_cell e.cell;
       };
       block = tt;

@@ -4,7 +4,7 @@ use Rattle.first_pass_blocks.proofs.Common.{no_names, PassState, ordered_none}
 use Rattle.first_pass_tokens.proofs.BytesLemmas.{few_of_line}
 use Rattle.first_pass.proofs.CallsNamed.{line_named}
 use Rattle.first_pass.proofs.Chains.{AddsTokens, chain_continues, chain_later, closed_by_break, line_adds}
-use Rattle.first_pass.proofs.Closable.{closable_tokens, outside_of}
+use Rattle.first_pass.proofs.Adding.{may_add_tokens, outside_of}
 use Rattle.first_pass.proofs.OrderJoin.{IsRange, both_ends, line_ends, state_before, ordered_line}
 use Rattle.first_pass.proofs.TablesWhole.{line_whole}
 use Rattle.first_pass.proofs.state.FirstPass.append_content.Goals as goal
@@ -36,10 +36,10 @@ returns-clause-line c =
             (range ends boundary)
             (state_before text old at c.args.start c.recall_forest.ensures o low) e.line in
             ordered_none text new answer.0 refl to.within to;
-        closable = λ ends boundary at low h.
+        may_add = λ ends boundary at low h.
             let to = ordered_line (document text options no_names) self.braces c.args.start c.args.end old.tree new.tree answer (range ends boundary)
             (state_before text old at c.args.start c.recall_forest.ensures h.read.0 low) e.line in
-            closable_tokens text old new at answer.0 e.line.tokens e.line.tree_is h (ordered_none text new answer.0 refl to.within to);
+            may_add_tokens text old new at answer.0 e.line.tokens e.line.tree_is h (ordered_none text new answer.0 refl to.within to);
         node_bound = few_of_line e.line;
       };
       block = record {

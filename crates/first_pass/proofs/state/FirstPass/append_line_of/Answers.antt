@@ -3,7 +3,7 @@ use Rattle.first_pass_grammar.proofs.Common.{Item, Document, document, IsRawLine
 use Rattle.first_pass_blocks.proofs.Common.{range_of, RawKind, Code, Html, extends_none, names_of, PassState}
 use Rattle.first_pass_leaves.proofs.RawOrder.{text_line_in_order, html_line_in_order}
 use Rattle.first_pass.proofs.CallsNamed.{raw_line_named}
-use Rattle.first_pass.proofs.Closable.{closable_tokens}
+use Rattle.first_pass.proofs.Adding.{may_add_tokens}
 use Rattle.first_pass.proofs.OrderJoin.{state_before, tokens_ordered}
 use Rattle.first_pass.proofs.TablesWhole.{raw_line_whole}
 use Rattle.first_pass.proofs.state.FirstPass.append_line_of.Goals as goal
@@ -40,8 +40,8 @@ returns c =
       order = λ at low begins ends o.
           tokens_ordered text old new from to e.line.items (state_before text old at from c.recall_forest.ensures o low)
           (line_in_order c.args.kind d c.args.remaining_space from to e.line.items c.requires.range.0 begins ends are) ends.0 e.line.tree_is refl;
-      closable = λ at low begins ends h.
-          closable_tokens text old new at to e.line.items e.line.tree_is h
+      may_add = λ at low begins ends h.
+          may_add_tokens text old new at to e.line.items e.line.tree_is h
           (tokens_ordered text old new from to e.line.items (state_before text old at from c.recall_forest.ensures h.read.0 low)
           (line_in_order c.args.kind d c.args.remaining_space from to e.line.items c.requires.range.0 begins ends are) ends.0 e.line.tree_is refl);
     }

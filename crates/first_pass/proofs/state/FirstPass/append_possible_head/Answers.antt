@@ -5,7 +5,7 @@ use Rattle.first_pass.specs.Views.{allocs_of, tree_of}
 use Rattle.first_pass_order.proofs.OrderLemmas.{ordered_at_later}
 use Rattle.first_pass_order.proofs.WholeKept.{more_whole}
 use Rattle.first_pass.proofs.Chains.{chain_later}
-use Rattle.first_pass.proofs.Closable.{closable_later}
+use Rattle.first_pass.proofs.Adding.{may_add_later}
 use Rattle.first_pass.proofs.OrderJoin.{before_cut, front_of}
 use Rattle.first_pass.proofs.state.FirstPass.append_possible_head.Goals as goal
 
@@ -46,8 +46,8 @@ returns-clause-tokens c =
           subst (IsCharBoundary text) (sym there) (f.place _ (line_stops (text_upto text c.args.end) next f.utf8 f.boundary));
       order = λ ends boundary at low o.
           ordered_at_later text c.append_content.new.self.pass.state next c.next_line.result later (omega arith) (e.order ends boundary at low o);
-      closable = λ ends boundary at low h.
-          closable_later text c.append_content.new.self.pass.state next c.next_line.result later (omega arith) (e.closable ends boundary at low h);
+      may_add = λ ends boundary at low h.
+          may_add_later text c.append_content.new.self.pass.state next c.next_line.result later (omega arith) (e.may_add ends boundary at low h);
       node_bound = omega arith;
     }
 

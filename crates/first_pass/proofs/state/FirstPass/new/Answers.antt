@@ -1,5 +1,5 @@
 use Rattle.std.proofs.Common.{rules}
-use Rattle.first_pass.proofs.BetweenCalls.{new_closable}
+use Rattle.first_pass.proofs.BetweenCalls.{new_may_add}
 use Rattle.first_pass.proofs.state.FirstPass.new.Goals as goal
 
 pub returns : goal.returns
@@ -10,7 +10,7 @@ returns c =
       options_are = e.options;
       empty = e.empty;
       ready = e.ready;
-      closable = new_closable c.args.text.now c.in_ok-pass.pass.state c.recall_forest.ensures e.root e.order;
+      may_add = new_may_add c.args.text.now c.in_ok-pass.pass.state c.recall_forest.ensures e.root e.order;
       root = e.root;
       named = e.named;
       labels = e.labels;

@@ -4,7 +4,7 @@ use Rattle.first_pass_items.specs.declared.item.CowIndex.{CowIndex}
 use Rattle.first_pass_items.specs.declared.item.ItemBody.TheVariants.{FootnoteDefinition}
 use Rattle.first_pass_lists.specs.Closing.{empty_item_closed, footnote_begun, footnote_left, gap_marked, list_closed}
 use Rattle.first_pass_containers.proofs.OrderSteps.{top_begun}
-use Rattle.first_pass.specs.Closable.{IsClosable}
+use Rattle.first_pass.specs.Adding.{MayAddAt}
 use Rattle.first_pass_blocks.proofs.Common.{is_list, names_of, top_body, IsReadTo, PassState, StaysSame, allocs_of, state_of, source_text, tree_of}
 use Rattle.first_pass_blocks.specs.declared.state.BlockPass.{BlockPass}
 use Rattle.first_pass_blocks.specs.OpenedFootnotes.{ReadsFootnote}
@@ -48,10 +48,10 @@ whole_by old new start (Some n) forest reads named h =
     rw opened.opened (note_whole (names_of (allocs_of new)) start opened.index (state_of old) forest
     (more_whole (names_of (allocs_of new)) (names_of (allocs_of old)) (tree_of old) more named h))
 
-closable_by : (old new : BlockPass) (start : ℕ) (size : Option ℕ) → IsCharBoundary (source_text old) start → ReadsFootnote old new start size
-    → IfSome size (λ n. (at : ℕ) → at ≤ start → IsReadTo (source_text old) (state_of old) at → IsClosable (source_text old) (state_of new) start)
-closable_by old new start None boundary reads = tt
-closable_by old new start (Some n) boundary reads = λ at low o.
+may_add_by : (old new : BlockPass) (start : ℕ) (size : Option ℕ) → IsCharBoundary (source_text old) start → ReadsFootnote old new start size
+    → IfSome size (λ n. (at : ℕ) → at ≤ start → IsReadTo (source_text old) (state_of old) at → MayAddAt (source_text old) (state_of new) start)
+may_add_by old new start None boundary reads = tt
+may_add_by old new start (Some n) boundary reads = λ at low o.
     let opened = (found_by _ (Some n) n (NoneRead old new (Some n)) (IsRead old new start) reads (λ none. none.0) refl).2.1 in
     record {
       read = footnote_keeps_order (source_text old) (state_of old) (state_of new) at start opened.index opened.opened low boundary.0 boundary
@@ -73,6 +73,6 @@ returns c =
         head = e.head;
         none = none_read old new c.args.start c.in_ok-size.size e.head;
         within = e.within;
-        closable = closable_by old new c.args.start c.in_ok-size.size c.requires e.head;
+        may_add = may_add_by old new c.args.start c.in_ok-size.size c.requires e.head;
       };
     }

@@ -2,9 +2,9 @@ use Rattle.std.proofs.Common.{◌+◌, drop, None, IsCharBoundary, refl, sym, ap
 use Rattle.first_pass_grammar.proofs.Common.{rule_block}
 use Rattle.first_pass_blocks.proofs.Common.{names_of, PassState, IsOrderedAt, block_added, block_ordered, line_stops}
 use Rattle.first_pass_grammar.proofs.Names.MoreNames.{extends_none}
-use Rattle.first_pass.specs.Closable.{IsClosable}
+use Rattle.first_pass.specs.Adding.{MayAddAt}
 use Rattle.first_pass.proofs.CallsNamed.{rule_named}
-use Rattle.first_pass.proofs.Closable.{closable_added}
+use Rattle.first_pass.proofs.Adding.{may_add_added}
 use Rattle.first_pass.proofs.LineLengths.{rule_line}
 use Rattle.first_pass.proofs.TablesWhole.{rule_shows, silent_whole}
 use Rattle.first_pass.proofs.state.FirstPass.parse_hrule.Goals as goal
@@ -32,9 +32,9 @@ returns c =
       order = λ at low begins ends o.
           subst (IsOrderedAt text new) (sym e.following)
           (block_ordered text old new at c.args.ix (c.args.ix + c.args.hrule_size) o low (λ from before. e.fits text from before begins ends) ends.0 refl);
-      closable = λ at low begins ends h.
-          subst (IsClosable text new) (sym e.following)
-          (closable_added text old new at (c.args.ix + c.args.hrule_size) (rule_block c.args.ix c.args.hrule_size) e.block h
+      may_add = λ at low begins ends h.
+          subst (MayAddAt text new) (sym e.following)
+          (may_add_added text old new at (c.args.ix + c.args.hrule_size) (rule_block c.args.ix c.args.hrule_size) e.block h
           (block_ordered text old new at c.args.ix (c.args.ix + c.args.hrule_size) h.read.0 low (λ from before. e.fits text from before begins ends) ends.0
           refl));
       following = e.following;

@@ -8,7 +8,7 @@ use Rattle.first_pass_order.proofs.Nests.{added_outside}
 use Rattle.first_pass_blocks.proofs.Leaves.KindBlocks.{html_stops, ordered_stopped, to_blank_between, to_blank_stands, to_blank_few}
 use Rattle.first_pass.proofs.Added.{adds_kept}
 use Rattle.first_pass.proofs.CallsNamed.{html_named}
-use Rattle.first_pass.proofs.Closable.{IsOutside, read_from}
+use Rattle.first_pass.proofs.Adding.{IsOutside, read_from}
 use Rattle.first_pass.proofs.TablesWhole.{html_block_shows, silent_whole}
 use Rattle.first_pass.proofs.state.FirstPass.parse_html_block_type_6_or_7.Goals as goal
 
@@ -44,7 +44,7 @@ returns c =
       boundary = e.boundary.1;
       fits = λ p i. to_blank_between _ _ _ _ _ c.args.start_ix _ e.utf8 c.requires.boundary e.boundary.1.0 _ p i (e.block p i);
       order = ordered;
-      closable = λ at low h.
+      may_add = λ at low h.
           read_from options text new next
           (subst IsOutside (sym block.tree_is) (added_outside old.tree block.items h.read.1.nested h.outside)) refl (ordered at low h.read.0);
       node_bound = to_blank_few _ _ _ _ _ c.args.start_ix _ e.utf8 c.requires.boundary e.boundary.1.0 _ p i block;

@@ -1,9 +1,9 @@
 use Rattle.std.proofs.Common.{◌≡◌, None, refl, sym, ap, subst}
 use Rattle.first_pass_blocks.proofs.Common.{names_of, PassState, IsOrderedAt, block_added}
 use Rattle.first_pass_containers.proofs.OrderSteps.{text_ordered}
-use Rattle.first_pass.specs.Closable.{IsClosable}
+use Rattle.first_pass.specs.Adding.{MayAddAt}
 use Rattle.first_pass.proofs.CallsNamed.{text_added}
-use Rattle.first_pass.proofs.Closable.{closable_added}
+use Rattle.first_pass.proofs.Adding.{may_add_added}
 use Rattle.first_pass.proofs.TablesWhole.{text_block_whole}
 use Rattle.first_pass.proofs.state.FirstPass.parse_paragraph.Goals as goal
 
@@ -31,7 +31,7 @@ returns c =
       fits = e.fits;
       order = λ inside at stands o. subst (λ (r : PassState). IsOrderedAt text r next) (sym is)
           (text_ordered text old new at c.args.start_ix next c.args.tasklist_marker o stands (e.fits inside) e.block.boundary.0 refl);
-      closable = λ inside at stands h. subst (λ (r : PassState). IsClosable text r next) (sym is)
-          (closable_added text old new at next e.block.items e.block.tree_is h
+      may_add = λ inside at stands h. subst (λ (r : PassState). MayAddAt text r next) (sym is)
+          (may_add_added text old new at next e.block.items e.block.tree_is h
           (text_ordered text old new at c.args.start_ix next c.args.tasklist_marker h.read.0 stands (e.fits inside) e.block.boundary.0 refl));
     }

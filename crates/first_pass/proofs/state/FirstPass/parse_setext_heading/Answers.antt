@@ -2,7 +2,7 @@ use Rattle.std.proofs.Common.{◌≡◌, ℕ, ◌+◌, List, drop, Some, IsCharB
 use Rattle.first_pass_grammar.proofs.Common.{HeadingLevel, setext_underline, some_mapped}
 use Rattle.first_pass_blocks.proofs.Common.{extends_none, line_end_at, line_stops}
 use Rattle.first_pass.proofs.CallsNamed.{heading_named}
-use Rattle.first_pass.proofs.CutOrder.{heading_closable, heading_ordered}
+use Rattle.first_pass.proofs.CutOrder.{heading_may_add, heading_ordered}
 use Rattle.first_pass.proofs.LineLengths.{underline_line}
 use Rattle.first_pass.proofs.state.FirstPass.parse_setext_heading.Goals as goal
 
@@ -19,7 +19,7 @@ returns-in_default c = record {
   boundary = λ begins. tt;
   node_bound = omega arith;
   order = λ at holds o. o;
-  closable = λ at to holds h. h;
+  may_add = λ at to holds h. h;
 }
 
 pub returns : goal.returns
@@ -41,5 +41,5 @@ returns c =
       boundary = λ begins. subst (IsCharBoundary text) (sym there) (line_stops text ix c.recall_utf8.ensures begins);
       node_bound = e.node_bound;
       order = λ at holds o. heading_ordered c.requires.open e.heading holds o;
-      closable = λ at to holds h. heading_closable c.args.self.now.pass.state c.make_heading.new.tree at to c.recall_forest.ensures e.heading holds h;
+      may_add = λ at to holds h. heading_may_add c.args.self.now.pass.state c.make_heading.new.tree at to c.recall_forest.ensures e.heading holds h;
     }

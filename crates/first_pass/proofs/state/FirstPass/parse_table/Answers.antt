@@ -2,7 +2,7 @@ use Rattle.std.proofs.Common.{refl}
 use Rattle.first_pass_grammar.proofs.Common.{document}
 use Rattle.first_pass_blocks.proofs.Common.{names_of}
 use Rattle.first_pass.proofs.CallsNamed.{rows_named}
-use Rattle.first_pass.proofs.RowsOrdered.{rows_closable, rows_count, rows_ordered}
+use Rattle.first_pass.proofs.RowsOrdered.{rows_may_add, rows_count, rows_ordered}
 use Rattle.first_pass.proofs.TableClosed.{closed_table_whole}
 use Rattle.first_pass.proofs.state.FirstPass.parse_table.Goals as goal
 
@@ -16,7 +16,7 @@ returns c =
       state = refl;
       rows = e.rows;
       order = λ at low following o. rows_ordered c.requires.open.1 e.rows.boundary (e.fits at low following) o;
-      closable = λ table at low following h. rows_closable c.requires.open.1 e.rows.boundary (e.fits at low following) refl table h;
+      may_add = λ table at low following h. rows_may_add c.requires.open.1 e.rows.boundary (e.fits at low following) refl table h;
       node_bound = λ from low following apart. rows_count c.requires.open.1 (e.fits from low following) apart;
       tables = e.tables;
       whole = λ r start index is width few named h.

@@ -10,30 +10,30 @@ use Rattle.first_pass_lists.specs.Closing.{is_item}
 use Rattle.first_pass_order.specs.Ordered.{top_of, AreNested, CanClose, IsOrderedFrom}
 use Rattle.first_pass_order.proofs.Nests.{AreClassed, classed_ended, nested_classed, nested_front, top_front, added_outside, tree_closes}
 use Rattle.first_pass_order.proofs.OrderLemmas.{ordered_at_later}
-use Rattle.first_pass.specs.Closable.{IsClosable}
+use Rattle.first_pass.specs.Adding.{MayAddAt}
 
 -- only items are open directly in lists, and the innermost open node is no list
 abbrev pub IsOutside : Forest Item → Type 0
 IsOutside f = AreNested f.nodes f.spine × (is_list (top_body f) ≡ false)
 
-pub closable_by : (text : List ℕ) (r : PassState) (f : Forest Item) (at : ℕ) → r.tree ≡ f → IsOutside f → IsOrderedAt text r at → IsClosable text r at
-closable_by text r f at is h o = record {
+pub may_add_by : (text : List ℕ) (r : PassState) (f : Forest Item) (at : ℕ) → r.tree ≡ f → IsOutside f → IsOrderedAt text r at → MayAddAt text r at
+may_add_by text r f at is h o = record {
   read = (o, subst (λ (g : Forest Item). CanClose text g at) (sym is) (tree_closes text f at h.0 h.1));
   outside = ap (λ (g : Forest Item). is_list (top_body g)) is ∙ h.1;
 }
 
-pub outside_of : {text : List ℕ} {r : PassState} {at : ℕ} → IsClosable text r at → IsOutside r.tree
+pub outside_of : {text : List ℕ} {r : PassState} {at : ℕ} → MayAddAt text r at → IsOutside r.tree
 outside_of h = (h.read.1.nested, h.outside)
 
 -- up to a later offset
-pub closable_later : (text : List ℕ) (r : PassState) (at b : ℕ) → at ≤ b → b ≤ length text → IsClosable text r at → IsClosable text r b
-closable_later text r at b later within h = closable_by text r r.tree b refl (outside_of h) (ordered_at_later text r at b later within h.read.0)
+pub may_add_later : (text : List ℕ) (r : PassState) (at b : ℕ) → at ≤ b → b ≤ length text → MayAddAt text r at → MayAddAt text r b
+may_add_later text r at b later within h = may_add_by text r r.tree b refl (outside_of h) (ordered_at_later text r at b later within h.read.0)
 
 -- a block is added
-pub closable_added : (text : List ℕ) (old new : PassState) (at next : ℕ) (items : List (ℕ × Item)) → new.tree ≡ added old.tree items
-    → IsClosable text old at → IsOrderedAt text new next → IsClosable text new next
-closable_added text old new at next items is h o =
-    closable_by text new (added old.tree items) next is (added_outside old.tree items h.read.1.nested h.outside) o
+pub may_add_added : (text : List ℕ) (old new : PassState) (at next : ℕ) (items : List (ℕ × Item)) → new.tree ≡ added old.tree items
+    → MayAddAt text old at → IsOrderedAt text new next → MayAddAt text new next
+may_add_added text old new at next items is h o =
+    may_add_by text new (added old.tree items) next is (added_outside old.tree items h.read.1.nested h.outside) o
 
 -- tokens are added
 pub top_kept : (old new : List (ℕ × Item)) (spine : List TreeIndex) → AreClassed old new → is_list (top_of new spine) ≡ is_list (top_of old spine)
@@ -55,10 +55,10 @@ tokens_outside f (x ∷ xs) h =
     tokens_outside (with_token f x) xs
     (cond_both _ (with_end f x.«end» f.current) (appended f x) IsOutside (λ b. ended_outside f x.«end» f.current h) (λ b. appended_outside f x h))
 
-pub closable_tokens : (text : List ℕ) (old new : PassState) (at next : ℕ) (tokens : List Item) → new.tree ≡ with_tokens old.tree tokens
-    → IsClosable text old at → IsOrderedAt text new next → IsClosable text new next
-closable_tokens text old new at next tokens is h o =
-    closable_by text new (with_tokens old.tree tokens) next is (tokens_outside old.tree tokens (outside_of h)) o
+pub may_add_tokens : (text : List ℕ) (old new : PassState) (at next : ℕ) (tokens : List Item) → new.tree ≡ with_tokens old.tree tokens
+    → MayAddAt text old at → IsOrderedAt text new next → MayAddAt text new next
+may_add_tokens text old new at next tokens is h o =
+    may_add_by text new (with_tokens old.tree tokens) next is (tokens_outside old.tree tokens (outside_of h)) o
 
 -- no item is empty if the innermost open node is no item
 none_by : (o : Option ℕ) (b : Bool) (C : ℕ → Type 0) → ((e : ℕ) → o ≡ Some e → (b ≡ true) × C e) → b ≡ false → o ≡ None
