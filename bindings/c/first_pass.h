@@ -221,7 +221,7 @@ struct first_pass_counts {
  * @param[in] name_room how many it can hold
  * @param[out] counts at FIRST_PASS_OK how many records were written; at FIRST_PASS_TOO_SMALL how many it takes
  * @return enum first_pass_status. At FIRST_PASS_OK nothing is changed in an array after the records that were written.
- *     At another status the arrays may hold anything.
+ *     At FIRST_PASS_TOO_LONG the arrays may hold anything; at any other status they are unchanged.
  */
 FIRST_PASS_API uint32_t first_pass_read(const uint8_t *text, size_t length, uint32_t options,
                                         struct first_pass_node *nodes, size_t node_room,
@@ -265,7 +265,8 @@ FIRST_PASS_API uint32_t first_pass_read_arrays(const uint8_t *text, size_t lengt
  * @param[out] folded the folding; not NULL, also without room
  * @param[in] room how many bytes it can hold
  * @param[out] folded_length at FIRST_PASS_OK how many bytes it has; at FIRST_PASS_TOO_SMALL how many it takes
- * @return FIRST_PASS_OK, FIRST_PASS_OUT_OF_MEMORY, FIRST_PASS_NOT_UTF8 or FIRST_PASS_TOO_SMALL
+ * @return FIRST_PASS_OK, FIRST_PASS_OUT_OF_MEMORY, FIRST_PASS_NOT_UTF8 or FIRST_PASS_TOO_SMALL. At each but FIRST_PASS_OK
+ *     the array is unchanged.
  */
 FIRST_PASS_API uint32_t first_pass_fold(const uint8_t *label, size_t length, uint8_t *folded, size_t room,
                                         size_t *folded_length);

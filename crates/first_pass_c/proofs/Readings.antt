@@ -1,5 +1,5 @@
 -- The result of reading a text, for the caller.
-use Rattle.std.proofs.Common.{◌≡◌, ℕ, List, All, inr, refl, ap, arith}
+use Rattle.std.proofs.Common.{◌≡◌, ◌≢◌, ℕ, List, All, inr, refl, ap, arith}
 use Rattle.first_pass_names.specs.TableEntries.{names_of, tables_of}
 use Rattle.first_pass_c.specs.FlatForm.{FlatForm}
 use Rattle.first_pass_c.specs.FlatNodes.{IsShort}
@@ -46,6 +46,15 @@ no_room_at_4 NotUtf8 form arrays is leaves = absurd leaves
 no_room_at_4 BadOptions form arrays is leaves = absurd leaves
 no_room_at_4 TooSmall form arrays is leaves = leaves
 no_room_at_4 TooLong form arrays is leaves = absurd (let four : 5 ≡ 4 = ap status_of is in omega arith)
+
+-- the fault of an array that is too short is the only one of a form's writing with another status than 5
+pub small_unless_5 : (fault : Fault) (form : FlatForm) (arrays : Memory) (status : ℕ) → WriteLeaves fault form arrays → status ≡ status_of fault
+    → status ≢ 5 → fault ≡ TooSmall
+small_unless_5 OutOfMemory form arrays status leaves told other = absurd leaves
+small_unless_5 NotUtf8 form arrays status leaves told other = absurd leaves
+small_unless_5 BadOptions form arrays status leaves told other = absurd leaves
+small_unless_5 TooSmall form arrays status leaves told other = refl
+small_unless_5 TooLong form arrays status leaves told other = absurd (other told)
 
 -- the text is too long at status 5
 pub long_at_5 : (text : List ℕ) (bits : ℕ) (parsed : Parsed) (arrays : Memory) (fault : Fault) (status : ℕ) → IsParsed text bits parsed

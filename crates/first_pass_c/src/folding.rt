@@ -1,7 +1,7 @@
 //! The folding of a label, in memory of the caller.
 
 ghost use Rattle.first_pass_c.specs.Folding.{FoldLeaves, IsFolded};
-ghost use Rattle.std.specs.Prelude.{OnOk, IfErr};
+ghost use Rattle.std.specs.Prelude.{◌≡◌, OnOk, IfErr};
 
 use crate::copying::copy_into;
 use crate::fault::Fault;
@@ -20,6 +20,7 @@ pub(crate) fn fold_into(
     ensures ok { OnOk result (IsFolded label.now folded.old folded.new folded_length.new) }
     ensures fault { IfErr result
         (λ fault. FoldLeaves fault label.now folded.old folded_length.old folded_length.new) }
+    ensures unchanged { IfErr result (λ _. folded.new ≡ folded.old) }
 {
     let Ok(text) = str::from_utf8(label) else {
         return Err(Fault::NotUtf8);

@@ -30,7 +30,8 @@ use std::alloc::Global;
 ///
 /// The statuses, in the order of the tests: 3, a bit belongs to no option; 2, the text is not UTF-8; 5, the text has
 /// 2^32 bytes or more; 1, an allocation failed; 4, an array is too short, and `counts` has the lengths that are
-/// needed; 5, a number of a node needs more than 32 bits. At statuses 4 and 5 the arrays may have been written to.
+/// needed; 5, a number of a node needs more than 32 bits. At status 5 the arrays may have been written to. At statuses
+/// 1 to 4 they are unchanged.
 #[unsafe(no_mangle)]
 pub extern "C" fn first_pass_read(
     alloc: Global,
@@ -52,6 +53,8 @@ pub extern "C" fn first_pass_read(
     ensures too_long { result ≡ 5 → IsTooLong text.now bits }
     ensures status { result ≤ 5 }
     ensures counted { result ≢ 0 → result ≢ 4 → counts.new ≡ counts.old }
+    ensures unchanged { result ≢ 0 → result ≢ 5 → memory nodes.new attributes.new definitions.new names.new
+        ≡ memory nodes.old attributes.old definitions.old names.old }
 {
     let parsed = match read_text(alloc, text, bits) {
         Ok(parsed) => parsed,
@@ -75,7 +78,7 @@ pub extern "C" fn first_pass_read(
 /// and `folded_length` is its length. The rest of `folded` is unchanged.
 ///
 /// The statuses, in the order of the tests: 2, the label is not UTF-8; 1, an allocation failed; 4, `folded` is too
-/// short, and `folded_length` is the length that is needed.
+/// short, and `folded_length` is the length that is needed. At each of these `folded` is unchanged.
 #[unsafe(no_mangle)]
 pub extern "C" fn first_pass_fold(
     alloc: Global,
@@ -90,6 +93,7 @@ pub extern "C" fn first_pass_fold(
     ensures status { result ≤ 4 }
     ensures no_options { result ≢ 3 }
     ensures counted { result ≢ 0 → result ≢ 4 → folded_length.new ≡ folded_length.old }
+    ensures unchanged { result ≢ 0 → folded.new ≡ folded.old }
 {
     match fold_into(alloc, label, folded, folded_length) {
         Ok(()) => 0,

@@ -1,5 +1,6 @@
 //! Reads a text, and writes its flat form into memory of the caller.
 
+ghost use Rattle.first_pass_c.specs.declared.fault.Fault.TheVariants.{TooSmall};
 ghost use Rattle.first_pass_c.specs.Memory.{memory};
 ghost use Rattle.first_pass_c.specs.Parsed.{IsParsed, HasSides, form_of};
 ghost use Rattle.first_pass_c.specs.Reading.{AreKnown, IsFormWritten, ReadLeaves, WriteLeaves, counts_of};
@@ -102,6 +103,9 @@ pub(crate) fn write_into(
         (memory nodes.new attributes.new definitions.new names.new)) }
     ensures fault { IfErr result (λ fault. WriteLeaves fault (form_of parsed.now)
         (memory nodes.old attributes.old definitions.old names.old)) }
+    ensures unchanged { IfErr result (λ fault. fault ≡ TooSmall →
+        memory nodes.new attributes.new definitions.new names.new
+        ≡ memory nodes.old attributes.old definitions.old names.old) }
 {
     let needed = parsed.counts();
     if nodes.len() < needed.nodes

@@ -2,7 +2,7 @@ use Rattle.std.proofs.Common.{sym, subst}
 use Rattle.first_pass_c.specs.Memory.{memory}
 use Rattle.first_pass_c.specs.Parsed.{form_of}
 use Rattle.first_pass_c.specs.Reading.{IsTooSmall}
-use Rattle.first_pass_c.proofs.Readings.{is_read, is_too_small, long_at_5, no_room_at_4, small_at_4}
+use Rattle.first_pass_c.proofs.Readings.{is_read, is_too_small, long_at_5, no_room_at_4, small_at_4, small_unless_5}
 use Rattle.first_pass_c.proofs.first_pass_read.Goals.{in-TooSmall, in_default}
 use Rattle.first_pass_c.proofs.first_pass_read.Goals as goal
 
@@ -27,3 +27,10 @@ pub returns-clause-too_long : goal.returns-clause-too_long
 returns-clause-too_long c five =
     long_at_5 c.args.text.now c.args.bits c.in-Ok.parsed _ c.in-Err-write_into.fault c.status_of-in-Err-write_into.result c.in-Ok.ensures.ok
     c.in-Err-write_into.ensures.fault c.status_of-in-Err-write_into.ensures five
+
+pub returns-clause-unchanged : goal.returns-clause-unchanged
+returns-clause-unchanged c failed other =
+    let arrays = memory c.args.nodes.now c.args.attributes.now c.args.definitions.now c.args.names.now in
+    c.in-Err-write_into.ensures.unchanged
+    (small_unless_5 c.in-Err-write_into.fault (form_of c.in-Ok.parsed) arrays c.status_of-in-Err-write_into.result
+    c.in-Err-write_into.ensures.fault c.status_of-in-Err-write_into.ensures other)
