@@ -265,8 +265,8 @@ FIRST_PASS_API uint32_t first_pass_read_arrays(const uint8_t *text, size_t lengt
  * @param[out] folded the folding; not NULL, also without room
  * @param[in] room how many bytes it can hold
  * @param[out] folded_length at FIRST_PASS_OK how many bytes it has; at FIRST_PASS_TOO_SMALL how many it takes
- * @return FIRST_PASS_OK, FIRST_PASS_OUT_OF_MEMORY, FIRST_PASS_NOT_UTF8 or FIRST_PASS_TOO_SMALL. At each but FIRST_PASS_OK
- *     the array is unchanged.
+ * @return FIRST_PASS_OK, FIRST_PASS_OUT_OF_MEMORY, FIRST_PASS_NOT_UTF8 or FIRST_PASS_TOO_SMALL. At each but
+ *     FIRST_PASS_OK the array is unchanged.
  */
 FIRST_PASS_API uint32_t first_pass_fold(const uint8_t *label, size_t length, uint8_t *folded, size_t room,
                                         size_t *folded_length);
