@@ -3,7 +3,7 @@ pub mod Sides
 pub mod Nexts
 pub mod Filling
 pub mod Bodies
-pub mod Reading
+pub mod FlatRead
 mod Bits
 mod Counts
 mod Ranges

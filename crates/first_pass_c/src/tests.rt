@@ -1,4 +1,4 @@
-//! The two calls, as a C program makes them.
+//! The calls over a text and a label, as a C program makes them.
 
 use crate::flat::records::{FlatAttribute, FlatDefinition, FlatNode};
 use crate::reading::FlatCounts;

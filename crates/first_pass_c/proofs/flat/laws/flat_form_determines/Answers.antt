@@ -1,4 +1,4 @@
-use Rattle.first_pass_c.proofs.Reading.{nodes_determined, tables_determined}
+use Rattle.first_pass_c.proofs.FlatRead.{nodes_determined, tables_determined}
 use Rattle.first_pass_c.proofs.flat.laws.flat_form_determines.Goals as goal
 
 pub returns-clause-nodes : goal.returns-clause-nodes
