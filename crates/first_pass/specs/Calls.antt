@@ -52,7 +52,8 @@ use Rattle.first_pass.specs.Views.{allocs_of, braces_of, context_in, document_na
 use Rattle.first_pass.specs.Views.{source_options, source_text, tree_of, with_tree}
 
 -- The state of a pass over this text under these options before it reads anything: the root is its only node, nothing
--- is defined, no brace context is open, and the derivation of the text begins here (this project).
+-- is defined, no brace context is open, a block can be added, and the derivation of the text begins here (this
+-- project).
 pub record StartsPass (text : List ℕ) (options : Options) (pass : FirstPass) : Type 0 where
   pub text_is : source_text pass ≡ text
   pub options_are : source_options pass ≡ options
@@ -102,8 +103,8 @@ pub record FinishesItem (old new : FirstPass) : Type 0 where
 
 -- A leaf block that begins at an offset is added, and reading continues at another. No item is empty after it, and
 -- `blank` is true if a counting blank line is directly before the next line. The new nodes lie between the two
--- offsets. The state is in order up to the second offset if the first is a character boundary, and its open nodes can
--- still be closed. Whole tables stay whole (this project).
+-- offsets. If the first is a character boundary, the state is in order up to the second, and a further block can be
+-- added there. Whole tables stay whole (this project).
 pub record AddsLeafBlock (old new : FirstPass) (start next : ℕ) (blank : Bool) : Type 0 where
   pub kept : KeepsNames old new
   pub whole : StayWhole old new
@@ -173,9 +174,9 @@ pub record AddsHtmlToBlank (old new : FirstPass) (start columns next : ℕ) : Ty
       → IsReadFrom (source_options old) (source_text old) (state_of new) next × (is_list (top_body (tree_of new)) ≡ false)
   pub node_bound : (from : ℕ) → from ≤ start → from < next → GrowsBy from next (tree_of old).nodes (tree_of new).nodes
 
--- A thematic break of `size` bytes that begins at an offset is added, and reading continues after it. It is in order
--- if both of its ends are character boundaries. If that is the size of the thematic break in the text there, the second
--- end is one if the first is (CommonMark 4.1, and this project).
+-- A thematic break of `size` bytes that begins at an offset is added, and reading continues after it. If both of its
+-- ends are character boundaries, it is in order, and a further block can be added. If that is the size of the thematic
+-- break in the text there, the second end is one if the first is (CommonMark 4.1, and this project).
 pub record AddsRule (old new : FirstPass) (ix size next : ℕ) : Type 0 where
   pub kept : KeepsTables old new
   pub state : state_of new ≡ with_block (state_of old) (tree_of new)
@@ -190,9 +191,9 @@ pub record AddsRule (old new : FirstPass) (ix size next : ℕ) : Type 0 where
   pub boundary : hrule_len (drop ix (source_text old)) ≡ Some size → IsCharBoundary (source_text old) ix → IsCharBoundary (source_text old) next
 
 -- The paragraph, setext heading or table at an offset is added, after the marker of its task list item if it has one.
--- Its nodes lie between the start of the text, or of that marker, and the offset at which reading continues. If the
--- marker has no index, each index names an entry if each did before. If it is that of a task list item, whole tables
--- stay whole (CommonMark 4.8, GFM 5.3, and this project).
+-- Its nodes lie between the start of the text, or of that marker, and the offset at which reading continues. A further
+-- block can be added there. If the marker has no index, each index names an entry if each did before. If it is that of
+-- a task list item, whole tables stay whole (CommonMark 4.8, GFM 5.3, and this project).
 pub record AddsParagraph (old new : FirstPass) (start : ℕ) (marker : Option Item) (next : ℕ) : Type 0 where
   pub block : AddsText (document_named old new) start marker (tree_of old) (tree_of new) next
   pub source : source_of new ≡ source_of old
@@ -208,9 +209,9 @@ pub record AddsParagraph (old new : FirstPass) (start : ℕ) (marker : Option It
   pub may_add : MarkerIsInItem (tree_of old) marker → (at : ℕ) → MarkerBetween (source_text old) at start marker
       → MayAddAt (source_text old) (state_of old) at → MayAddAt (source_text old) (state_of new) next
 
--- A raw line between two offsets is appended, after the columns owed before it. The state is in order up to the line's
--- end if both offsets are character boundaries, and its open nodes can still be closed. Whole tables stay whole (this
--- project).
+-- A raw line between two offsets is appended, after the columns owed before it. If both offsets are character
+-- boundaries, the state is in order up to the line's end, and a block can still be added. Whole tables stay whole
+-- (this project).
 pub record AppendsRawLine (kind : RawKind) (old new : FirstPass) (owed start «end» : ℕ) : Type 0 where
   pub line : AppendsRaw (range_of kind) (source_text old) (names_of (allocs_of new)) owed start «end» (tree_of old) (tree_of new)
   pub kept : KeepsNames old new
@@ -221,9 +222,10 @@ pub record AppendsRawLine (kind : RawKind) (old new : FirstPass) (owed start «e
   pub may_add : (at : ℕ) → at ≤ start → IsCharBoundary (source_text old) start → IsCharBoundary (source_text old) «end»
       → MayAddAt (source_text old) (state_of old) at → MayAddAt (source_text old) (state_of new) «end»
 
--- The tokens between two offsets of a text, which may be cut at `end`, are appended: at most one for each byte, and in
--- order if the first offset and the cut are character boundaries. The second offset then is one, too. The item to which
--- the tokens are added is no longer empty. Whole tables stay whole (CommonMark 2.4, GFM 4.10, and this project).
+-- The tokens between two offsets of a text, which may be cut at `end`, are appended: at most one for each byte. If the
+-- first offset and the cut are character boundaries, so is the second offset, the tokens are in order, and a block can
+-- still be added. The item to which the tokens are added is no longer empty. Whole tables stay whole (CommonMark 2.4,
+-- GFM 4.10, and this project).
 pub record AppendsTokens (old new : FirstPass) (start : ℕ) (end : Option ℕ) (stop : ℕ) : Type 0 where
   pub kept : KeepsEntries old new
   pub whole : StayWhole old new
@@ -235,10 +237,10 @@ pub record AppendsTokens (old new : FirstPass) (start : ℕ) (end : Option ℕ) 
       → MayAddAt (source_text old) (state_of old) at → MayAddAt (source_text old) (state_of new) stop
   pub node_bound : length (tree_of new).nodes ≤ length (tree_of old).nodes + (stop - start)
 
--- What a line that is read, with the returned line break, does to the open nodes, if its ends are character boundaries.
--- They can still be closed if the break is appended. If the innermost of them contains a chain up to an offset that is
--- not after the line's start, it contains one up to the returned offset. So a line may begin after container prefixes
--- (CommonMark 6.7, 6.8, and this project).
+-- What a line that is read, with the returned line break, does to the open nodes, if its ends are character
+-- boundaries. A block can still be added if the break is appended. If the innermost of them contains a chain up to an
+-- offset that is not after the line's start, it contains one up to the returned offset. So a line may begin after
+-- container prefixes (CommonMark 6.7, 6.8, and this project).
 pub record ContinuesBlock (old new : FirstPass) (start : ℕ) (end : Option ℕ) (answer : ℕ × Option Item) : Type 0 where
   pub broken : IfSome end (λ e. IsCharBoundary (source_text old) e) → IsCharBoundary (source_text old) start → (at : ℕ) → at ≤ start
       → MayAddAt (source_text old) (state_of old) at
@@ -258,10 +260,11 @@ pub record ReadsContent (mode : TableParseMode) (old new : FirstPass) (start : �
   pub tokens : AppendsTokens old new start end answer.0
   pub block : ContinuesInMode mode old new start end answer
 
--- The rows of a table with this many columns are added to it, and the table is closed where reading continues. They
--- are whole, in order, and at most four nodes for each byte, if the line of the header row ends at or before
--- `body_start`. Whole tables stay whole, from before the table was opened, if its index names the alignments of its
--- columns, and the header row needs no more inserted cells than a table may have (GFM 4.10, and this project).
+-- The rows of a table with this many columns are added to it, and the table is closed where reading continues. If the
+-- line of the header row ends at or before `body_start`, they are whole, in order, and at most four nodes for each
+-- byte, and a further block can be added. Whole tables stay whole, from before the table was opened, if its index
+-- names the alignments of its columns, and the header row needs no more inserted cells than a table may have (GFM
+-- 4.10, and this project).
 pub record ClosesTable (old new : FirstPass) (columns head_start body_start next : ℕ) : Type 0 where
   pub kept : KeepsNames old new
   pub texts : AddsTexts (names_of (allocs_of new)) (names_of (allocs_of old))
@@ -280,9 +283,9 @@ pub record ClosesTable (old new : FirstPass) (columns head_start body_start next
       → AreNamed (names_of (allocs_of old)) r.tree.nodes → HasWholeTables (names_of (allocs_of old)) r.tree
       → HasWholeTables (names_of (allocs_of new)) (tree_of new)
 
--- A row of a table that begins at an offset is read, or there is none. If the offset is a character boundary, the row is
--- in order, ends at one, and has at most four nodes for each byte. Its texts are appended to the named texts. The table
--- remains open, and its nodes can still be closed (GFM 4.10, and this project).
+-- A row of a table that begins at an offset is read, or there is none. If the offset is a character boundary, the row
+-- is in order, ends at one, and has at most four nodes for each byte. Its texts are appended to the named texts. The
+-- table remains open, and a further row can be added (GFM 4.10, and this project).
 pub record ReadsRowFrom (old new : FirstPass) (ix next : ℕ) : Type 0 where
   pub kept : KeepsEntries old new
   pub texts : AddsTexts (names_of (allocs_of new)) (names_of (allocs_of old))
@@ -310,8 +313,9 @@ pub record ReadsTableLine (old new : FirstPass) (wanted : CellsWanted) (inserted
   pub reads : ReadsRowFrom old new wanted.start (after_row row wanted.start)
 
 -- The head of a footnote definition is sought at an offset; `size` is the number of bytes of the head, if one begins
--- there. Then its definition is open and in order. The brace contexts are unchanged. Each index names an entry if each
--- did before, and the tables among the nodes are then whole if they were (this project).
+-- there. Then its definition is open and in order, and a block can be added to it. The brace contexts are unchanged.
+-- Each index names an entry if each did before, and the tables among the nodes are then whole if they were (this
+-- project).
 pub record OpensFootnote (old new : FirstPass) (start : ℕ) (size : Option ℕ) : Type 0 where
   pub braces : braces_of new ≡ braces_of old
   pub named : StayNamed old new

@@ -107,8 +107,8 @@ pub record HoldsText (d : Document) (f : Forest Item) (block : TreeIndex) (l : T
 
 -- The innermost block becomes a heading if a setext heading underline begins at an offset; otherwise nothing changes.
 -- Reading continues at the end of the underline's line, which is a character boundary if the offset is one. No node is
--- added. If the block contains tokens, a tree in order stays in order; if these are a chain, the open nodes can still be
--- closed (CommonMark 4.3, and this project).
+-- added. If the block contains tokens, a tree in order stays in order; if these are a chain, a block can still be
+-- added (CommonMark 4.3, and this project).
 pub record MakesHeading (old new : FirstPass) (ix : ℕ) (block : TreeIndex) (broken : Bool) (next : Option ℕ) : Type 0 where
   pub kept : KeepsNames old new
   pub state : state_of new ≡ with_tree (state_of old) (tree_of new)

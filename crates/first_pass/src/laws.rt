@@ -32,12 +32,12 @@ pub fn lines_are_tokens()
         → HoldsTokens d.text f block × IsOrderedTo d.text f (start_of (length d.text) l.left) }
 {}
 
-/// A block is opened, and nothing in it is read yet. It is the innermost open node and the last one. The open nodes can
-/// be closed there if it is no list and is not opened directly in one, or if it is an item. So an item can be opened
-/// after `continue_list`. Whole tables stay whole if it is no part of a table, and no text that a definition list may
-/// take in. If the block has text, it contains an empty chain, so its lines can be read one by one by `parse_line`. The
-/// open nodes can also be closed, and the chain is empty, after the marker of a task list item is appended to a block
-/// with text in that item (CommonMark 4.8, 5.2, GFM 5.3, and this project).
+/// A block is opened, and nothing in it is read yet. It is the innermost open node and the last one. A block can be
+/// added there if it is no list and is not opened directly in one, or if it is an item. So an item can be opened after
+/// `continue_list`. Whole tables stay whole if it is no part of a table, and no text that a definition list may take
+/// in. If the block has text, it contains an empty chain, so its lines can be read one by one by `parse_line`. A block
+/// can also be added, and the chain is empty, after the marker of a task list item is appended to a block with text in
+/// that item (CommonMark 4.8, 5.2, GFM 5.3, and this project).
 pub fn block_begins()
     ensures pushed { (start : ℕ) (body : ItemBody) (r : PassState)
         → IsJustPushed (begun start body r).tree (record { 0 = length r.tree.nodes })

@@ -337,8 +337,8 @@ impl PassState {
         self.leave_list_and_mark_gap(ix);
     }
 
-    // Calls `leave_list` at the offset `ix`, and then `mark_gap`: a blank line before the new block counts for the list
-    // around the closed one. This is the rest of `finish_list`, after an empty item is closed.
+    // Closes the innermost open node at the offset `ix` if it is a list. Then a blank line before the block that begins
+    // there counts for the list around it.
     fn leave_list_and_mark_gap(&mut self, ix: usize)
         ensures { self.new ≡ gap_marked (list_closed ix self.old) }
     {

@@ -1,4 +1,4 @@
-//! How far a line continues the open containers (CommonMark 5).
+//! The prefixes of a line for the open containers: which of them it continues (CommonMark 5).
 
 ghost use Rattle.first_pass_grammar.specs.Containers.{prefix, after, front};
 ghost use Rattle.first_pass_grammar.specs.declared.kind.Container.TheVariants.{BlockQuote, ListItem};
