@@ -6,7 +6,7 @@ use Rattle.std.proofs.lemmas.Bool.{lt-ltb}
 use Rattle.std.proofs.lemmas.Bool.Decides.{nat_tests}
 use Rattle.first_pass_items.specs.declared.cow_str.CowStr.{CowStr}
 use Rattle.first_pass_items.specs.CowText.{text_of}
-use Rattle.first_pass_links.specs.Labels.{ReturnsAfter, AnswersWith, CanErr, FailsOnLabel, IsLabelUnder, ReadsLabel, label_at}
+use Rattle.first_pass_links.specs.Labels.{ReturnsAfter, AnswersWith, CanErr, FailsOnLabel, IsLabelUnder, ReadsLabel, continuing_at}
 use Rattle.first_pass_links.specs.Units.{UnderAnswers}
 
 -- if the handler answers as a prefix does, the fact holds for this prefix
@@ -78,6 +78,30 @@ under_both {text} {post} {from} {mid} {upto} u v (before, after) both = record {
       f at (rw b h) ∙ rw b refl))
       (v.holds prefix (λ at h. let b = lt_false at mid (v.between at h).0 in
       f at (rw b h) ∙ rw b refl));
+}
+
+-- an answer after an earlier line ending stays if the label continues after a later one
+continuing_before : (text : List ℕ) (at n : ℕ) (prefix : List ℕ → Option ℕ) → at < n → n < length text
+    → continuing_at text n prefix (drop (at + 1) text) ≡ prefix (drop (at + 1) text)
+continuing_before text at n prefix before within =
+    let d = length-drop (at + 1) text in
+    let e = length-drop (n + 1) text in
+    let other : (length (drop (at + 1) text) == length (drop (n + 1) text)) ≡ false = grind (arith, nat_tests, d, e) in
+    rw other refl
+
+-- a fact that holds under some answers also holds if the label continues after a later line ending
+pub under_continuing : {text : List ℕ} {post : Bor (List ℕ) → Result (Option ℕ) AllocError → Type 0} {from upto : ℕ}
+    {Fact : (List ℕ → Option ℕ) → Type 0} (n : ℕ) → UnderAnswers text post from upto Fact → upto ≤ n → n < length text
+    → UnderAnswers text post from upto (λ prefix. Fact prefix × Fact (continuing_at text n prefix))
+under_continuing {text} n u after within = record {
+  asked = u.asked;
+  answers = u.answers;
+  between = u.between;
+  allowed = u.allowed;
+  holds = λ prefix f. (
+    u.holds prefix f,
+    u.holds (continuing_at text n prefix) (λ at k. let b = (u.between at k).1 in continuing_before text at n prefix (omega arith) within ∙ f at k),
+  );
 }
 
 -- a result is the label under at most one label

@@ -9,7 +9,7 @@ use Rattle.first_pass_items.specs.Bytes.{space, backslash}
 use Rattle.first_pass_lines.specs.Lines.{ends_line, is_white_or_line_end}
 use Rattle.first_pass_links.specs.Escapes.{without_pipe_escapes}
 use Rattle.first_pass_links.specs.declared.label.Unit.{Unit}
-use Rattle.first_pass_links.specs.Labels.{is_bracket, CanErr, IsRewritten, before_bracket, bytes_of, label_len, single_spaced, as_read}
+use Rattle.first_pass_links.specs.Labels.{is_bracket, CanErr, ErrsInLabel, IsRewritten, continuing_at, before_bracket, bytes_of, label_len, single_spaced, as_read}
 use Rattle.first_pass_links.specs.Units.{read_of, left_at, Reads, IsWhiteRun, StopsByError, weight}
 use Rattle.first_pass_links.proofs.Parts.{weight-append, weight-length, weight-nil, weight-space, weight-other}
 use Rattle.std.proofs.lemmas.Bool.Decides.{nat_tests}
@@ -129,8 +129,8 @@ track_written h t text at k same tracked n = λ e.
 -- the handler fails: no bracket comes before, or the line ending is part of the label
 stop_by : (o : Option ℕ) (h : List ℕ → Option ℕ) (t : Bool) (text : List ℕ) (at : ℕ) (k : Known) (post : Bor (List ℕ) → Result (Option ℕ) AllocError → Type 0)
     → IsRead h t text 0 at k → (w : StopsByError text at post) → IsWhiteRun h text at w.next w.characters → h (drop (w.next + 1) text) ≡ o
-    → CanErr h t text post
-stop_by None h t text at k post read w r f =
+    → ErrsInLabel h text post → CanErr h t text post
+stop_by None h t text at k post read w r f errs =
     let R = bytes_of r.run in
     let X : all_from h text at ≡ R =
     ap bytes_of (r.joins ∙ ap (λ cs. r.run ++ cs) (left-stop h text w.next w.stops.1.within w.stops.1.line_end f) ∙ append-nil r.run) in
@@ -141,16 +141,8 @@ stop_by None h t text at k post read w r f =
     let q = ap length whole ∙ length-append (bytes_of read.run) (all_from h text at) in
     let l = bytes-length read.run in
     let m = ap length X in
-    inr (
-      omega arith,
-      record {
-        at = w.next;
-        before = read.run ++ r.run;
-        joins = read.joins ∙ ap (λ cs. read.run ++ cs) r.joins ∙ sym (append_assoc read.run r.run (left_at h text w.next));
-        errs = w.stops;
-      },
-    )
-stop_by (Some m) h t text at k post read w r f =
+    inr (omega arith, errs)
+stop_by (Some m) h t text at k post read w r f errs =
     let next = w.next in
     let done = bytes_of read.run in
     let b = get_or text next 0 in
@@ -169,6 +161,20 @@ stop_by (Some m) h t text at k post read w r f =
     tracked_before h t text at k read ∙ ap (λ xs. done ++ xs) B ∙ sym (append_assoc done R (b ∷ take (label_len Y) Y)) in
     inl (λ z. heavy_differs t (done ++ R) (take (label_len Y) Y) b s.0 s.1 (ap (as_read t) (sym is) ∙ z ∙ is))
 
+-- the label extends up to the line ending after which the handler fails
+reaches_stop : (h : List ℕ → Option ℕ) (t : Bool) (text : List ℕ) (at : ℕ) (k : Known) (post : Bor (List ℕ) → Result (Option ℕ) AllocError → Type 0)
+    (w : StopsByError text at post) → IsRead (continuing_at text w.next h) t text 0 at k
+    → IsWhiteRun (continuing_at text w.next h) text at w.next w.characters → ErrsInLabel h text post
+reaches_stop h t text at k post w read r = record {
+  at = w.next;
+  before = read.run ++ r.run;
+  joins = read.joins ∙ ap (λ cs. read.run ++ cs) r.joins
+      ∙ sym (append_assoc read.run r.run (left_at (continuing_at text w.next h) text w.next));
+  errs = w.stops;
+}
+
+-- the label is read up to a run of white space in which the handler fails, also if it continues after that line ending
 pub track_stop : (h : List ℕ → Option ℕ) (t : Bool) (text : List ℕ) (at : ℕ) (k : Known) (post : Bor (List ℕ) → Result (Option ℕ) AllocError → Type 0)
-    → IsRead h t text 0 at k → (s : StopsByError text at post) → IsWhiteRun h text at s.next s.characters → CanErr h t text post
-track_stop h t text at k post r s run = stop_by _ h t text at k post r s run refl
+    (s : StopsByError text at post) → IsRead h t text 0 at k × IsRead (continuing_at text s.next h) t text 0 at k
+    → IsWhiteRun h text at s.next s.characters × IsWhiteRun (continuing_at text s.next h) text at s.next s.characters → CanErr h t text post
+track_stop h t text at k post s (read, also) (run, on) = stop_by _ h t text at k post read s run refl (reaches_stop h t text at k post s also on)

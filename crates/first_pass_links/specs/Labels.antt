@@ -117,12 +117,16 @@ pub record ReturnsAfter (text : List ℕ) (at : ℕ) (result : Result (Option �
 abbrev pub ErrsAfter : List ℕ → ℕ → (Bor (List ℕ) → Result (Option ℕ) AllocError → Type 0) → Type 0
 ErrsAfter text at post = (error : AllocError) × ReturnsAfter text at (Err error) post
 
--- The label extends up to a line ending after which the handler may fail. The joined text has some bytes, and then those
--- that are joined from this line ending on (this project).
+-- the prefixes of lines if the label continues directly after the line ending at `at` (this project)
+abbrev pub continuing_at : List ℕ → ℕ → (List ℕ → Option ℕ) → List ℕ → Option ℕ
+continuing_at text at prefix bs = if length bs == length (drop (at + 1) text) then Some 0 else prefix bs
+
+-- The label extends up to a line ending after which the handler may fail: if the label continues there, the joined text
+-- has some bytes, and then this line ending and what is joined after it (this project).
 pub record ErrsInLabel (prefix : List ℕ → Option ℕ) (text : List ℕ) (post : Bor (List ℕ) → Result (Option ℕ) AllocError → Type 0) : Type 0 where
   pub at : ℕ
   pub before : List (ℕ × ℕ)
-  pub joins : joined prefix 0 0 text ≡ before ++ joined prefix at 0 (drop at text)
+  pub joins : joined (continuing_at text at prefix) 0 0 text ≡ before ++ joined (continuing_at text at prefix) at 0 (drop at text)
   pub errs : ErrsAfter text at post
 
 -- Reading a label may fail in two cases. Its source changes as it is read; or the joined text has no unescaped bracket,

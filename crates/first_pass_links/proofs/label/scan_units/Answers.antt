@@ -11,7 +11,7 @@ use Rattle.first_pass_links.specs.Labels.{IsRewritten, is_bracket, label_at}
 use Rattle.first_pass_links.specs.Plain.{IsPlainLabel}
 use Rattle.first_pass_links.specs.Units.{part, left_at, IsLighter, Reads, ReadsUnits, UnderAnswers}
 use Rattle.first_pass_links.proofs.Destinations.{first_byte}
-use Rattle.first_pass_links.proofs.Handlers.{under_none, under_map, under_both}
+use Rattle.first_pass_links.proofs.Handlers.{under_none, under_map, under_both, under_continuing}
 use Rattle.first_pass_links.proofs.Parts.{of_text, part-none, part-start}
 use Rattle.first_pass_links.proofs.PlainRuns.{plain_label}
 use Rattle.first_pass_links.proofs.Labels.{too_long, blank_stops, end_stops, at_bracket, label_after, label_read, read_nothing, read_both, read_unit, Known}
@@ -158,10 +158,11 @@ pub returns-in_err-unit-clause-err : goal.returns-in_err-unit-clause-err
 returns-in_err-unit-clause-err g c =
     let text = c.args.text.now in
     let stop = rw c.as_bytes-bytes.ensures.value at c.in_err-unit.ensures.err in
-    let both = under_both c.loop-at.invariant.tracked stop.run (omega arith, stop.order)
-    (λ h k r. track_stop h c.args.in_table text c.loop-at.at _ _ k.read stop r) in
     let order = stop.order in
     let within = stop.stops.1.within in
+    let both = under_both (under_continuing stop.next c.loop-at.invariant.tracked order within) (under_continuing stop.next stop.run (omega arith) within)
+    (omega arith, order)
+    (λ h k r. track_stop h c.args.in_table text c.loop-at.at _ _ stop (k.0.read, k.1.read) r) in
     on_err c.from_residual.result (under_map both (omega arith) (omega arith) (λ h z. z))
 
 -- a unit is written
