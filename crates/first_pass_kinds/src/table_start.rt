@@ -19,7 +19,7 @@ use first_pass_lines::places::rest_of;
 use first_pass_open::front::front_of;
 use first_pass_open::source::Source;
 use first_pass_scan::pipes::has_pipe_in_line;
-use first_pass_scan::table_start::{scan_delimiter_row, scan_row_columns};
+use first_pass_scan::table_start::{scan_delimiter_row, scan_head_columns};
 use first_pass_tree::forest::Tree;
 use std::alloc::AllocError;
 
@@ -88,7 +88,7 @@ fn scan_table_at(
     let Some(alignments) = scan_delimiter_row(source.alloc, &front.rest)? else {
         return Ok(None);
     };
-    if alignments.len() != scan_row_columns(bytes, row_content) {
+    if alignments.len() != scan_head_columns(bytes, row_content) {
         return Ok(None);
     }
     Ok(Some(HeadedTable {

@@ -11,22 +11,15 @@ ghost use Rattle.std.specs.Prelude.{◌≡◌, ◌≤◌, ℕ, ◌+◌, ◌-◌,
 use crate::line_start::LineStart;
 use crate::table_scan::{count_header_cols, scan_alignments};
 use first_pass_items::item::Alignment;
-use first_pass_lines::lines::content_len;
 use std::alloc::{AllocError, Global};
 
-/// Returns the number of columns of the first line of `bytes` as a header row. Each pipe that is not directly after a
-/// backslash counts, except one that begins the line after white space. If the rest of the line after the last such
-/// pipe is not blank, it is one more column. Returns 0 if there is no such pipe. GFM 4.10.
-pub fn scan_head_columns(bytes: &[u8]) -> usize
-    ensures { result ≡ head_columns bytes.now }
-{
-    scan_row_columns(bytes, content_len(bytes))
-}
-
-/// Returns the same as `scan_head_columns`, for a line whose length without its line ending, `content`, is known.
+/// Returns the number of columns of the first line of `bytes` as a header row; `content` is the length of that line
+/// without its line ending. Each pipe that is not directly after a backslash counts, except one that begins the line
+/// after white space. If the rest of the line after the last such pipe is not blank, it is one more column. Returns 0 if
+/// there is no such pipe. GFM 4.10.
 // Not inlined: in its caller the loop over the bytes of a row would lack registers.
 #[inline(never)]
-pub fn scan_row_columns(bytes: &[u8], content: usize) -> usize
+pub fn scan_head_columns(bytes: &[u8], content: usize) -> usize
     requires content { content ≡ prefix_len is_content bytes.now }
     requires within { content ≤ length bytes.now }
     ensures { result ≡ head_columns bytes.now }

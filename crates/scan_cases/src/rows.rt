@@ -3,6 +3,7 @@
 use crate::call::Call;
 use first_pass_cases::answer::Answer;
 use first_pass_items::item::Alignment;
+use first_pass_lines::lines::content_len;
 use first_pass_scan::line_start::LineStart;
 use first_pass_scan::table_scan::scan_table_head;
 use first_pass_scan::table_start::{scan_delimiter_row, scan_head_columns};
@@ -12,7 +13,7 @@ use std::alloc::{AllocError, Global};
 pub fn answer_rows(call: &Call<'_>, answer: &mut Answer) -> Result<bool, AllocError> {
     let (alloc, bytes) = (call.alloc, call.text.as_bytes());
     match call.name {
-        "scan_head_columns" => answer.number(scan_head_columns(bytes))?,
+        "scan_head_columns" => answer.number(scan_head_columns(bytes, content_len(bytes)))?,
         "scan_table_head" => {
             let (len, columns) = scan_table_head(alloc, bytes)?;
             answer.number(len)?;

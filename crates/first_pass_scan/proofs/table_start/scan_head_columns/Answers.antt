@@ -3,7 +3,7 @@ use Rattle.std.proofs.lemmas.List.Sums.{prefix_len-le-length}
 use Rattle.first_pass_lines.specs.Lines.{is_content}
 use Rattle.first_pass_scan.specs.TableHead.{last_pipe_after, header_columns, pipes_of}
 use Rattle.first_pass_scan.proofs.HeaderRows.{head-none, head-some, end-none, end-some, last-facts, last-in-line, pipes-of-line}
-use Rattle.first_pass_scan.proofs.table_start.scan_row_columns.Goals as goal
+use Rattle.first_pass_scan.proofs.table_start.scan_head_columns.Goals as goal
 
 pub returns-then-end-eq0 : goal.returns-then-end-eq0
 returns-then-end-eq0 c =
