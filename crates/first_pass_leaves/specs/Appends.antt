@@ -1,4 +1,4 @@
--- The nodes that the leaf parsers append to the tree.
+-- The nodes that the parsers of paragraphs, headings and thematic breaks append to the tree.
 use Rattle.std.specs.Prelude.{◌≡◌, ◌≤◌, ℕ, ◌+◌, List, [], take, drop, Option, Some, None, false, IsCharBoundary, if◌then◌else◌, ◌<◌, ◌^◌, IfSome}
 use Rattle.first_pass_items.specs.declared.cow_str.CowStr.{CowStr}
 use Rattle.first_pass_items.specs.declared.item.Item.{Item}
