@@ -7,7 +7,7 @@ ghost use Rattle.first_pass_lines.specs.Rest.{next_column, after_columns, indent
 ghost use Rattle.first_pass_scan.specs.Blanks.{without_owed, past_blank};
 ghost use Rattle.first_pass_scan.specs.LeafLines.{hrule_len};
 ghost use Rattle.first_pass_scan.specs.Markers.{list_marker, content_indent as content_after, after_marker, after_colon, item_of, listitem, definition_of, task_box, task_of, past_tag};
-ghost use Rattle.std.specs.Prelude.{◌≡◌, ◌≤◌, ◌+◌, ◌<◌, ◌^◌, ◌==◌, ◌&&◌, ◌||◌, min, nat_le, not, length, drop, is_some, IfSome, MatchOption, if◌then◌else◌, true, false};
+ghost use Rattle.std.specs.Prelude.{◌≡◌, ◌≤◌, ◌+◌, ◌<◌, ◌^◌, ◌==◌, ◌&&◌, min, nat_le, not, length, drop, is_some, IfSome, MatchOption, if◌then◌else◌, true, false};
 
 use crate::leaf_scan::{scan_hrule, scan_rule_free};
 use crate::markers::{scan_list_marker, scan_tag_line, scan_task_box};
@@ -216,7 +216,7 @@ impl<'a> LineStart<'a> {
     /// count towards the item's indent. Returns the marker's byte (`.` or `)` after digits), its number (0 for a
     /// bullet) and the columns that a line needs to continue the item. Returns `None`, and takes nothing, if a column
     /// is owed, no item begins here, or a thematic break is here. CommonMark 5.2.
-    #[tactic(auto, unfolding(crate::specs::Markers::item_of, crate::specs::Markers::after_marker))]
+    #[tactic(auto, unfolding(crate::specs::Markers::item_of))]
     #[inline(always)]
     pub fn scan_list_marker_with_indent(&mut self, indent: usize) -> Option<(u8, u64, usize)>
         requires { indent ≤ 3 }
@@ -224,10 +224,6 @@ impl<'a> LineStart<'a> {
             (result ≡ Some item.0) × (self.new ≡ item.1)) }
     {
         let (width, byte, number) = self.list_marker()?;
-        // Many lines that begin with a bullet are no items, such as `*a*` and `---`.
-        if !self.ends_marker(width) {
-            return None;
-        }
         if self.is_at_rule() {
             return None;
         }
@@ -305,19 +301,6 @@ impl<'a> LineStart<'a> {
             return None;
         }
         scan_list_marker(rest_of(self.bytes, self.at))
-    }
-
-    // Whether a column or the end of the line follows a marker of `width` bytes here. No column may be owed.
-    #[inline(always)]
-    fn ends_marker(&self, width: usize) -> bool
-        requires within { width ≤ length self.now.left }
-        requires none_owed { self.now.owed ≡ 0 }
-        ensures { result ≡ (nat_le 1 (indent (past_bytes width self.now))
-            || at_line_end (past_bytes width self.now).left) }
-    {
-        let mut next = self.copy();
-        next.skip(width);
-        !next.has_no_column() || next.is_at_eol()
     }
 
     // Whether a thematic break is here. Nothing before `rule_free` is scanned again, so a series of markers is
