@@ -1,0 +1,107 @@
+-- The run of a report over several files (this project).
+use Rattle.std.specs.Prelude.{◌≡◌, ◌⊎◌, ◌&&◌, ℕ, max, Bool, true, false, if◌then◌else◌, List, [], ◌∷◌, ◌++◌, Option, Result, OnOk, IfErr, IsUtf8, codes, ⊤}
+use Rattle.std.specs.Io.KnownBytes.{Appends}
+use Rattle.std.specs.Str.Lossy.{utf8_valid_len}
+use Rattle.first_pass_host.specs.Streams.{Stream, stream_between, IsUntouched, AppendsFront}
+use Rattle.first_pass_items.specs.declared.option_set.Options.{Options}
+use Rattle.first_pass_command.specs.Faults.{Tells, ends_run, file_status, shown}
+use Rattle.first_pass_command.specs.declared.run.Progress.{Progress}
+use Rattle.first_pass_command.specs.declared.fault.FileFault.{FileFault}
+use Rattle.first_pass_command.specs.declared.fault.FileFault.TheVariants.{Unread, NotUtf8, OutOfMemory, WriteFailed}
+
+-- what a run over files is given: the relation between the name of a file, options, its text and the whole report on
+-- it; the relation between a name and the bytes that are read under it; the options; and whether files have headings
+pub record Setting : Type 1 where
+  pub Says : List ℕ → Options → List ℕ → List ℕ → Type 0
+  pub Holds : List ℕ → List ℕ → Type 0
+  pub options : Options
+  pub headed : Bool
+
+-- a setting of these
+abbrev pub setting : (List ℕ → Options → List ℕ → List ℕ → Type 0) → (List ℕ → List ℕ → Type 0) → Options → Bool → Setting
+setting Says Holds options headed = record { Says = Says; Holds = Holds; options = options; headed = headed }
+
+-- the heading above the report on a file, after an empty line if there was a report before
+abbrev pub heading : Bool → Bool → List ℕ → List ℕ
+heading headed begun name = if headed then (if begun then 10 ∷ [] else []) ++ (codes "==> " ++ (shown name ++ (codes " <==" ++ (10 ∷ [])))) else []
+
+-- a heading and the whole report on a text are written
+pub record WritesBoth (Says : Options → List ℕ → List ℕ → Type 0) (options : Options) (head text : List ℕ) (output : Stream) : Type 0 where
+  pub whole : List ℕ
+  pub says : Says options text whole
+  pub appended : Appends output.old output.new (head ++ whole)
+
+-- a beginning of them is written
+pub record WritesBothFront (Says : Options → List ℕ → List ℕ → Type 0) (options : Options) (head text : List ℕ) (output : Stream) : Type 0 where
+  pub whole : List ℕ
+  pub says : Says options text whole
+  pub appended : AppendsFront output.old output.new (head ++ whole)
+
+-- a beginning of the heading, which may be empty or all of it, or of the heading and the report
+abbrev pub LeavesBoth : (Options → List ℕ → List ℕ → Type 0) → Options → List ℕ → List ℕ → Stream → Type 0
+LeavesBoth Says options head text output = AppendsFront output.old output.new head ⊎ WritesBothFront Says options head text output
+
+-- a text is read, and what the second argument says of it holds
+pub record Reads (s : Setting) (name : List ℕ) (P : List ℕ → Type 0) : Type 0 where
+  pub text : List ℕ
+  pub holds : s.Holds name text
+  pub utf8 : IsUtf8 text
+  pub rest : P text
+
+-- bytes are read that are not UTF-8, and this is the offset of the first wrong one
+pub record IsWrongAt (s : Setting) (name : List ℕ) (offset : ℕ) : Type 0 where
+  pub bytes : List ℕ
+  pub holds : s.Holds name bytes
+  pub wrong : IsUtf8 bytes → ⊥
+  pub at : offset ≡ utf8_valid_len bytes
+
+-- a fault of a read
+abbrev pub IsReadFault : FileFault → Type 0
+IsReadFault (Unread error) = ⊤
+IsReadFault OutOfMemory = ⊤
+IsReadFault _ = ⊥
+
+-- what a fault of a file says, and leaves written
+abbrev pub FileLeaves : Setting → Bool → List ℕ → Stream → FileFault → Type 0
+FileLeaves s begun name output (Unread error) = IsUntouched output
+FileLeaves s begun name output (NotUtf8 offset place) = IsWrongAt s name offset × IsUntouched output
+FileLeaves s begun name output OutOfMemory =
+    IsUntouched output ⊎ Reads s name (λ text. LeavesBoth (s.Says name) s.options (heading s.headed begun name) text output)
+FileLeaves s begun name output WriteFailed = Reads s name (λ text. LeavesBoth (s.Says name) s.options (heading s.headed begun name) text output)
+
+-- the result of a run over a file
+pub record RunsFile (s : Setting) (begun : Bool) (name : List ℕ) (output : Stream) (result : Result (Unit {0}) FileFault) : Type 0 where
+  pub ok : OnOk result (Reads s name (λ text. WritesBoth (s.Says name) s.options (heading s.headed begun name) text output))
+  pub fault : IfErr result (FileLeaves s begun name output)
+
+-- before the first file no report is written, the status is 0, and no line is missing
+abbrev pub start : Progress
+start = record { begun = false; worst = 0; told = true; ended = false }
+
+-- A run over a file, and how far the run over all files has come before and after it. If there is a fault, its line is
+-- written, whole if `told`, and its status counts.
+pub record Steps (s : Setting) (name : List ℕ) (before : Progress) (output errors : Stream) (after : Progress) : Type 0 where
+  pub result : Result (Unit {0}) FileFault
+  pub runs : RunsFile s before.begun name output result
+  pub told : Bool
+  pub ok : OnOk result ((told ≡ true) × IsUntouched errors × (after ≡ record before { begun = true }))
+  pub fault : IfErr result (λ f. Tells name f told errors
+      × (after ≡ record { begun = before.begun; worst = max before.worst (file_status f); told = before.told && told; ended = ends_run f }))
+
+-- the first where the truth value is true, otherwise the second
+abbrev pub Either : Bool → Type 0 → Type 0 → Type 0
+Either true A B = A
+Either false A B = B
+
+-- a run over files ends: nothing more is written
+abbrev pub Ends : Progress → Stream → Stream → Progress → Type 0
+Ends before output errors after = IsUntouched output × IsUntouched errors × (after ≡ before)
+
+-- the run over files, one after the other, up to the last or to one that ends the run
+abbrev pub RunsEach : Setting → List (List ℕ) → Progress → Stream → Stream → Progress → Type 0
+RunsEach s [] before output errors after = Ends before output errors after
+RunsEach s (name ∷ more) before output errors after =
+    (middle : Option (List ℕ)) × (half : Option (List ℕ)) × (next : Progress)
+    × Steps s name before (stream_between output.old middle) (stream_between errors.old half) next
+    × Either next.ended (Ends next (stream_between middle output.new) (stream_between half errors.new) after)
+    (RunsEach s more next (stream_between middle output.new) (stream_between half errors.new) after)

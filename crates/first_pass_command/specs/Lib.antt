@@ -1,0 +1,5 @@
+pub mod Faults
+pub mod Files
+pub mod Named
+pub mod Reports
+pub mod Words
