@@ -1,6 +1,5 @@
 //! The number of checks, and their results.
 
-use first_pass_cases::tally::Tally;
 use std::alloc::AllocError;
 
 /// The numbers of texts and fronts read, of trees not in order, and of wrong trees made and reported.
@@ -52,12 +51,9 @@ impl Sums {
         write!(report, "{told} of {wrong} wrong trees told\n")
     }
 
-    /// Returns the trees as cases; those that are reported wrongly differ.
-    pub fn tally(&self) -> Tally {
+    /// Returns the number of fronts not in order, and of wrong trees that are not reported for their own fault.
+    pub fn differ(&self) -> usize {
         let untold = self.wrong.saturating_sub(self.told);
-        Tally {
-            cases: self.fronts.saturating_add(self.wrong),
-            differ: self.breaches.saturating_add(untold),
-        }
+        self.breaches.saturating_add(untold)
     }
 }
