@@ -1,8 +1,20 @@
-//! Random texts, one after the other.
+//! Random texts, whose trees must have ranges in order.
+//!
+//! Each text is a sequence of snippets, and is read under random options. Texts are read for a number of seconds, but at
+//! least 1,000 texts, or until the tree of one is not in order. The same seed gives the same texts.
+//!
+//! The report has the seed and the number of texts that were read. If the tree of a text is not in order, it also has
+//! the options, what is wrong, and the smallest such text that is found by removing snippets: each line after a bar,
+//! control characters as pictures (see `first_pass_cases::pictures`).
 
-use crate::random::{random_options, random_pieces};
-use crate::report::{append_breach, append_line};
-use crate::task::{Task, parse_task};
+mod random;
+mod report;
+mod snippets;
+pub mod task;
+
+use crate::soak::random::{random_options, random_pieces};
+use crate::soak::report::{append_breach, append_line};
+use crate::soak::task::Task;
 use first_pass_blocks::pass::run_first_pass;
 use first_pass_cases::breach::Breach;
 use first_pass_cases::pieces::{joined, remove_pieces};
@@ -20,16 +32,15 @@ const BATCH: u32 = 1000;
 // One second in nanoseconds.
 const SECOND: u128 = 1_000_000_000;
 
-/// Reads random texts as the words request, appends the result to the report, and returns the exit status.
-pub fn soak<T: TimeSource>(
+/// Reads random texts as the task requests, and appends the result to the report. The default seed is the reading of the
+/// clock. Returns whether the tree of a text is not in order.
+pub fn read_random_texts<T: TimeSource>(
     clock: &mut T,
     alloc: Global,
-    words: &[String],
+    task: Task,
     report: &mut String,
-) -> Result<u8, RunFault> {
-    let Some(Task { seconds, seed }) = parse_task(words) else {
-        return Err(RunFault::BadOptions);
-    };
+) -> Result<bool, RunFault> {
+    let Task { seconds, seed } = task;
     let began = read_clock(clock)?;
     let seed = seed.unwrap_or(u64::try_from(began).unwrap_or(0));
     let mut rng = Pcg32::new(seed, 0);
@@ -37,14 +48,14 @@ pub fn soak<T: TimeSource>(
         if let Some(number) = read_batch(alloc, &mut rng, report)? {
             let texts = u64::from(batch - 1) * u64::from(BATCH) + u64::from(number);
             append_line(report, seed, texts, 1)?;
-            return Ok(1);
+            return Ok(true);
         }
         if u128::from(seconds) * SECOND <= read_clock(clock)?.saturating_sub(began) {
             append_line(report, seed, u64::from(batch) * u64::from(BATCH), 0)?;
             break;
         }
     }
-    Ok(0)
+    Ok(false)
 }
 
 // Reads a batch of texts. If the tree of one is not in order, appends that to the report and returns its number.

@@ -1,6 +1,6 @@
 //! Random texts and options.
 
-use crate::snippets::SNIPPETS;
+use crate::soak::snippets::SNIPPETS;
 use bitflags::Flags;
 use first_pass_items::option_set::Options;
 use rand_core::Rng;

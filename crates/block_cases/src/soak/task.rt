@@ -1,5 +1,6 @@
 //! The words after the program's name.
 
+use first_pass_host::fault::RunFault;
 use first_pass_host::option_word::begins_with_plus;
 
 // The default number of seconds.
@@ -12,9 +13,23 @@ pub struct Task {
     pub seed: Option<u64>,
 }
 
-/// Returns the task that the words request: `[SECONDS [SEED]]`, each one or more ASCII digits. Returns `None` for
-/// other words.
-pub fn parse_task(words: &[String]) -> Option<Task> {
+/// Returns the task that the words request: `soak [SECONDS [SEED]]`, each number one or more ASCII digits, or `None`
+/// without words. Returns `BadOptions` for other words.
+pub fn parse_words(words: &[String]) -> Result<Option<Task>, RunFault> {
+    let [name, numbers @ ..] = words else {
+        return Ok(None);
+    };
+    if name.as_str() != "soak" {
+        return Err(RunFault::BadOptions);
+    }
+    match parse_task(numbers) {
+        Some(task) => Ok(Some(task)),
+        None => Err(RunFault::BadOptions),
+    }
+}
+
+// The task that the words after `soak` request.
+fn parse_task(words: &[String]) -> Option<Task> {
     let (seconds, seed) = match words {
         [] => (SECONDS, None),
         [seconds] => (number_of(seconds.as_str())?, None),
