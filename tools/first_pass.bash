@@ -5,7 +5,7 @@ _first_pass_names() {
     local before=${1%"${1##*,}"} names
     names='tables footnotes strikethrough tasklists smart_punctuation heading_attributes yaml_style_metadata_blocks
         pluses_delimited_metadata_blocks old_footnotes math gfm definition_list superscript subscript wikilinks
-        commonmark github all'
+        commonmark github docs all'
     mapfile -t COMPREPLY < <(compgen -P "$before" -W "$names" -- "${1##*,}")
     compopt -o nospace
 }

@@ -2,8 +2,11 @@
  * @file first_pass.h
  * @brief The blocks of a Markdown text, as a tree with byte ranges.
  *
+ * The default is CommonMark without extensions: options of 0, which is FIRST_PASS_OPT_COMMONMARK. Other sets are
+ * FIRST_PASS_OPT_GITHUB, FIRST_PASS_OPT_DOCS and FIRST_PASS_OPT_ALL.
+ *
  *     struct first_pass_tree *tree;
- *     if (first_pass_parse(text, length, FIRST_PASS_OPT_ALL, NULL, &tree) == FIRST_PASS_OK) {
+ *     if (first_pass_parse(text, length, FIRST_PASS_OPT_COMMONMARK, NULL, &tree) == FIRST_PASS_OK) {
  *         for (size_t i = 0; i < tree->node_count; i++) {
  *             printf("%s %u..%u\n", first_pass_kind_name(tree->nodes[i].kind), tree->nodes[i].start,
  *                    tree->nodes[i].end);
@@ -44,8 +47,9 @@
 extern "C" {
 #endif
 
-/** Options: which extensions of CommonMark are read. 0 reads none. Several are joined by `|`. */
+/** Options: which extensions of CommonMark are read, and four sets of them. Several are joined by `|`. */
 enum first_pass_option {
+    FIRST_PASS_OPT_COMMONMARK = 0, /**< the set without extensions */
     FIRST_PASS_OPT_TABLES = 1 << 1,
     FIRST_PASS_OPT_FOOTNOTES = 1 << 2, /**< footnote definitions, as GitHub has them */
     FIRST_PASS_OPT_STRIKETHROUGH = 1 << 3,
@@ -61,7 +65,10 @@ enum first_pass_option {
     FIRST_PASS_OPT_SUPERSCRIPT = 1 << 13,
     FIRST_PASS_OPT_SUBSCRIPT = 1 << 14,
     FIRST_PASS_OPT_WIKILINKS = 1 << 15, /**< accepted, without an effect */
-    FIRST_PASS_OPT_ALL = 65534          /**< all of these */
+    FIRST_PASS_OPT_GITHUB = 2078,       /**< the set of GitHub: tables, footnotes, strikethrough, tasklists and gfm */
+    /** the set of documentation: that of GitHub, YAML metadata, heading attributes, math and definition lists */
+    FIRST_PASS_OPT_DOCS = 7390,
+    FIRST_PASS_OPT_ALL = 65534 /**< the set of all extensions */
 };
 
 /** How a call ended. */

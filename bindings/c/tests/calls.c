@@ -124,6 +124,15 @@ static void test_options(void) {
     }
 }
 
+/* The sets have the extensions that the command `first_pass` gives them. */
+static void test_sets(void) {
+    uint32_t github = FIRST_PASS_OPT_TABLES | FIRST_PASS_OPT_FOOTNOTES | FIRST_PASS_OPT_STRIKETHROUGH |
+                      FIRST_PASS_OPT_TASKLISTS | FIRST_PASS_OPT_GFM;
+    uint32_t docs = github | FIRST_PASS_OPT_YAML_STYLE_METADATA_BLOCKS | FIRST_PASS_OPT_HEADING_ATTRIBUTES |
+                    FIRST_PASS_OPT_MATH | FIRST_PASS_OPT_DEFINITION_LIST;
+    CHECK(FIRST_PASS_OPT_COMMONMARK == 0 && FIRST_PASS_OPT_GITHUB == github && FIRST_PASS_OPT_DOCS == docs);
+}
+
 static const struct {
     const char *name;
     int kind;
@@ -447,6 +456,7 @@ int main(void) {
     test_too_long();
     test_empty();
     test_options();
+    test_sets();
     test_kinds();
     test_quotes();
     test_names();

@@ -67,7 +67,7 @@ def nodes_of(document, kind):
 class EveryKindTest(unittest.TestCase):
     @classmethod
     def setUpClass(cls):
-        cls.document = parse(EVERY_KIND)
+        cls.document = parse(EVERY_KIND, Options.ALL)
 
     def members(self, kind):
         """The members that nodes of a kind have beside those of all."""
@@ -141,7 +141,7 @@ class EveryKindTest(unittest.TestCase):
 class TreeTest(unittest.TestCase):
     @classmethod
     def setUpClass(cls):
-        cls.document = parse(EVERY_KIND)
+        cls.document = parse(EVERY_KIND, Options.ALL)
 
     def test_sequence(self):
         document = self.document
@@ -202,7 +202,7 @@ class TreeTest(unittest.TestCase):
 
     def test_name_range(self):
         text = "ä\n\n~~~ a&amp;b \n~~~\n\na {x}\nb {#y} \\\n---\n\n[^c\\]d]: e\n"
-        document = parse(text)
+        document = parse(text, Options.DOCS)
         ranges = [document.name_range(index) for index in range(len(document))]
         self.assertEqual([document.slice(found) for found in ranges if found], ["a&amp;b", "#y", "c\\]d"])
         self.assertIsNone(document.name_range(0))
@@ -211,7 +211,7 @@ class TreeTest(unittest.TestCase):
             document.name_range(len(document))
 
     def test_an_unknown_kind_is_a_plain_node(self):
-        source = parse("a", 0)
+        source = parse("a")
         record = struct.pack("=7I4B", 0, 1, 1, 2, 0, 0, 7, 200, 1, 2, 3)
         root = struct.pack("=7I4B", 0, 1, 0, 2, 0, 0, 0, 0, 0, 0, 0)
         document = first_pass.Document(source.source, root + record, b"", b"", b"")
@@ -244,11 +244,11 @@ class TreeTest(unittest.TestCase):
 
     def test_equality(self):
         texts = ("a", "b", "# a {#b}", "# a {#c}", "# a {.b}", "[a]: /b 'c'", '[a]: /b "c"', "[a]: /b 'd'", "[^a]: b")
-        documents = [parse(text) for text in texts]
+        documents = [parse(text, Options.DOCS) for text in texts]
         for place, document in enumerate(documents):
-            self.assertEqual(document, parse(texts[place]))
+            self.assertEqual(document, parse(texts[place], Options.DOCS))
             self.assertEqual(documents.index(document), place)
-        self.assertNotEqual(parse("# a {#b}", 0), parse("# a {#b}"))
+        self.assertNotEqual(parse("# a {#b}"), parse("# a {#b}", Options.DOCS))
         self.assertNotEqual(documents[0], "a")
 
     def test_a_document_of_other_records_is_refused(self):
@@ -267,11 +267,11 @@ class OutlineTest(unittest.TestCase):
             Heading(1, 45, 58, None, "\\# x `y`\\*"),
             Heading(1, 59, 70, None, "\\`z \\`"),
         ]
-        self.assertEqual(parse(text).outline(), expected)
-        self.assertEqual(first_pass.outline(text), expected)
+        self.assertEqual(parse(text, Options.DOCS).outline(), expected)
+        self.assertEqual(first_pass.outline(text, Options.DOCS), expected)
 
     def test_options(self):
-        self.assertEqual(first_pass.outline("# One {#a}\n", 0), [Heading(1, 0, 11, None, "One {#a}")])
+        self.assertEqual(first_pass.outline("# One {#a}\n"), [Heading(1, 0, 11, None, "One {#a}")])
         self.assertEqual(first_pass.outline("# One {#a}\n", Options.HEADING_ATTRIBUTES)[0].id, "a")
 
 
@@ -279,7 +279,7 @@ class DefinitionsTest(unittest.TestCase):
     TEXT = "[B]: /b\n[a  \n c]: <> \"t\n u\"\n[\u00df]: /s ''\n[b]: /other\n\n[^N]: x\n\n[^\u1e9e]: y\n"
 
     def setUp(self):
-        self.document = parse(self.TEXT)
+        self.document = parse(self.TEXT, Options.GITHUB)
         self.definitions = self.document.definitions
 
     def test_values(self):

@@ -48,14 +48,20 @@ class TextTest(unittest.TestCase):
 
     def test_options(self):
         self.assertEqual(len(list(parse("| a |\n|---|\n", Options.TABLES).find(first_pass.Kind.Table))), 1)
-        self.assertEqual(len(list(parse("| a |\n|---|\n", 0).find(first_pass.Kind.Table))), 0)
+        self.assertEqual(len(list(parse("| a |\n|---|\n").find(first_pass.Kind.Table))), 0)
         self.assertEqual(parse("a", Options.TABLES | Options.MATH), parse("a", 1026))
-        self.assertEqual(parse("a"), parse("a", Options.ALL))
+
+    def test_the_default_is_commonmark(self):
+        text = "# a {#b}\n\n|c|\n|-|\n"
+        self.assertEqual(parse(text), parse(text, Options.COMMONMARK))
+        self.assertEqual(first_pass.outline(text), first_pass.outline(text, Options.COMMONMARK))
+        self.assertEqual(list(first_pass.parse_many([text])), [parse(text)])
+        self.assertNotEqual(parse(text), parse(text, Options.DOCS))
 
     def test_values_of_options(self):
         """The value of each option is that of the library."""
         value_of = _library._library.first_pass_option_value
-        single = [name for name in Options.__members__ if name not in ("COMMONMARK", "GITHUB", "ALL")]
+        single = [name for name in Options.__members__ if name not in ("COMMONMARK", "GITHUB", "DOCS", "ALL")]
         self.assertEqual(len(single), 15)
         for name in single:
             self.assertEqual(value_of(name.lower().encode()), Options[name].value, name)
@@ -64,6 +70,9 @@ class TextTest(unittest.TestCase):
         self.assertEqual(Options.from_names("github"), Options.GITHUB)
         names = "tables,footnotes,strikethrough,tasklists,gfm"
         self.assertEqual(Options.from_names(names), Options.GITHUB)
+        added = "yaml-style-metadata-blocks,heading-attributes,math,definition-list"
+        self.assertEqual(Options.from_names("github," + added), Options.DOCS)
+        self.assertEqual(Options.from_names("docs"), 7390)
         self.assertEqual(Options.from_names("heading-attributes,math,4"), 64 | 1024 | 4)
         self.assertEqual(Options.from_names("commonmark"), 0)
         self.assertEqual(Options.from_names("all"), 65534)
@@ -142,14 +151,14 @@ class MemoryTest(unittest.TestCase):
             source = text.encode()
             scratch = _scratch.Scratch.for_length(len(source))
             self.assertEqual(scratch.read(source, Options.ALL), 4, text[:20])
-            grown = parse(text)
+            grown = parse(text, Options.ALL)
             ample = _scratch.Scratch(*[len(source) + 1] * 4)
             self.assertEqual(ample.read(source, Options.ALL), 0)
             self.assertEqual(ample.document(source), grown)
 
     def test_exact_room_is_enough(self):
         source = (DEFINED[:1000] + "\n\n" + NAMES[:600] + "\n\n" + ATTRIBUTES[:180]).encode()
-        document = parse(source)
+        document = parse(source, Options.ALL)
         exact = [
             len(document),
             len(document.attribute_records) // 40,

@@ -1,4 +1,5 @@
-//! The blocks of a Markdown text as a tree with byte ranges, by a parser whose result is proved.
+//! The blocks of a Markdown text as a tree with byte ranges, by a parser whose result is proved. Its [`Options`] are by
+//! default [`Options::COMMONMARK`], which has no extension.
 //!
 //! [`parse`] reads a text, and returns a [`Document`]. Its [`Tree`] has the blocks as [`Node`]s: paragraphs, headings,
 //! lists, quotes, code, tables and more. Each block holds the chain of its possible inline markup as tokens. Beside
@@ -8,7 +9,7 @@
 //! use first_pass::Options;
 //!
 //! let text = "# Fruit\n\n- [apple]\n- pear\n\n[apple]: /apple\n";
-//! let document = first_pass::parse(text, Options::empty())?;
+//! let document = first_pass::parse(text, Options::COMMONMARK)?;
 //! let tree = document.tree();
 //!
 //! for heading in tree.outline() {

@@ -3,7 +3,8 @@
 use std::fmt;
 use std::ops::{BitAnd, BitOr, BitOrAssign, Sub};
 
-/// A set of extensions of CommonMark. Names and bits are those of pulldown-cmark.
+/// A set of extensions of CommonMark, by default [`Options::COMMONMARK`]. Names and bits of options are those of
+/// pulldown-cmark.
 ///
 /// ```
 /// use first_pass::Options;
@@ -30,7 +31,7 @@ macro_rules! options {
             $($(#[$attribute])* pub const $name: Options = Options($bits);)*
         }
         const NAMES: &[(&str, Options)] = &[$((stringify!($name), Options($bits))),*];
-        const ALL: u32 = $($bits)|*;
+        const KNOWN: u32 = $($bits)|*;
     };
 }
 
@@ -67,15 +68,27 @@ options! {
     ENABLE_WIKILINKS = 32768;
 }
 
+/// The sets that have a name.
 impl Options {
-    /// The set without options: CommonMark.
+    /// CommonMark: no option. This is the default.
+    pub const COMMONMARK: Options = Options(0);
+    /// What GitHub reads: tables, footnotes, strikethrough, task lists, and tags of block quotes.
+    pub const GITHUB: Options = Options(2078);
+    /// What documentation uses: what GitHub reads, YAML metadata, heading attributes, mathematics and definition lists.
+    pub const DOCS: Options = Options(7390);
+    /// All options.
+    pub const ALL: Options = Options(65534);
+}
+
+impl Options {
+    /// The set without options: [`Options::COMMONMARK`].
     pub const fn empty() -> Options {
-        Options(0)
+        Options::COMMONMARK
     }
 
-    /// The set of all options.
+    /// The set of all options: [`Options::ALL`].
     pub const fn all() -> Options {
-        Options(ALL)
+        Options::ALL
     }
 
     /// The bits of this set.
@@ -85,12 +98,12 @@ impl Options {
 
     /// The set with these bits, or `None` if one of them belongs to no option.
     pub const fn from_bits(bits: u32) -> Option<Options> {
-        if bits & !ALL == 0 { Some(Options(bits)) } else { None }
+        if bits & !KNOWN == 0 { Some(Options(bits)) } else { None }
     }
 
     /// The set with those of these bits that belong to an option.
     pub const fn from_bits_truncate(bits: u32) -> Options {
-        Options(bits & ALL)
+        Options(bits & KNOWN)
     }
 
     /// Whether this set has no option.

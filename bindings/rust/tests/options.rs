@@ -34,6 +34,24 @@ fn bits_of_each_option() {
     }
 }
 
+/// The sets have the options that the command `first_pass` gives them.
+#[test]
+fn sets_with_names() {
+    let github = Options::ENABLE_TABLES
+        | Options::ENABLE_FOOTNOTES
+        | Options::ENABLE_STRIKETHROUGH
+        | Options::ENABLE_TASKLISTS
+        | Options::ENABLE_GFM;
+    let docs = github
+        | Options::ENABLE_YAML_STYLE_METADATA_BLOCKS
+        | Options::ENABLE_HEADING_ATTRIBUTES
+        | Options::ENABLE_MATH
+        | Options::ENABLE_DEFINITION_LIST;
+    assert_eq!((Options::GITHUB, Options::DOCS), (github, docs));
+    assert_eq!((Options::COMMONMARK, Options::default()), (Options::empty(), Options::empty()));
+    assert_eq!(Options::ALL, Options::all());
+}
+
 #[test]
 fn only_bits_of_options() {
     for bits in 0..=u32::from(u16::MAX) {

@@ -50,6 +50,7 @@ Names of options, each with its value; '-' may stand for '_':
 Sets:
   commonmark                        0
   github                            2078
+  docs                              7390
   all                               65534
 
 Status: 0; 1 if memory ran out; 2 for a wrong word, a file that can't be read, a text that isn't UTF-8 or a failed

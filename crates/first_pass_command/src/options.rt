@@ -57,7 +57,7 @@ pub(crate) fn misplaced_message(alloc: Global, word: &str) -> Result<Vec<u8>, Al
     Ok(line)
 }
 
-static NAMES: [(&str, u32); 18] = [
+static NAMES: [(&str, u32); 19] = [
     ("tables", 2),
     ("footnotes", 4),
     ("strikethrough", 8),
@@ -75,6 +75,7 @@ static NAMES: [(&str, u32); 18] = [
     ("wikilinks", 32768),
     ("commonmark", 0),
     ("github", 2078),
+    ("docs", 7390),
     ("all", 65534),
 ];
 

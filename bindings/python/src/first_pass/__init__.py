@@ -1,7 +1,9 @@
-"""The blocks of a Markdown text as a tree with byte ranges, by a parser whose result is proved.
+"""The blocks of a Markdown text as a tree with byte ranges, by a parser whose result is proved. Without `Options` it
+reads CommonMark, with no extension.
 
     >>> import first_pass
-    >>> document = first_pass.parse("# One {#first}\\n\\n> See [two].\\n\\n[two]: /2 'b'\\n")
+    >>> text = "# One {#first}\\n\\n> See [two].\\n\\n[two]: /2 'b'\\n"
+    >>> document = first_pass.parse(text, first_pass.Options.DOCS)
     >>> document.outline()
     [Heading(level=1, start=0, end=15, id='first', title='One')]
     >>> [(node.kind, node.start, node.end) for node in document[:5]]

@@ -71,7 +71,7 @@ def _read_words(words: Sequence[str] | None) -> argparse.Namespace:
     parser.add_argument("--version", action="version", version=f"first_pass {__version__}")
     parser.add_argument("command", choices=("outline", "tree"), metavar="{outline,tree}")
     parser.add_argument("files", nargs="*", metavar="FILE")
-    names = "the extensions to read: names or sets (commonmark, github, all) with commas between them, or a value"
+    names = "the extensions to read: names or sets (commonmark, github, docs, all) with commas between them, or a value"
     parser.add_argument("-o", "--options", type=_options, action=_Union, default=0, metavar="NAMES", help=names)
     parser.add_argument("--threads", type=_positive, metavar="N", help="read N files at a time (outline)")
     arguments = parser.parse_intermixed_args(words)

@@ -21,7 +21,7 @@ _CHUNK_TEXTS = 256
 
 
 def parse_many(
-    texts: Iterable[Text], options: int = Options.ALL, *, threads: int | None = None, chunk_bytes: int = 1 << 18
+    texts: Iterable[Text], options: int = Options.COMMONMARK, *, threads: int | None = None, chunk_bytes: int = 1 << 18
 ) -> Iterator[Document]:
     """Parses texts in threads, and yields their documents in the same order.
 

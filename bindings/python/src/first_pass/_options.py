@@ -6,7 +6,12 @@ import enum
 
 
 class Options(enum.IntFlag):
-    """Extensions of CommonMark, and three sets of them: ``COMMONMARK``, which is empty, ``GITHUB`` and ``ALL``."""
+    """Extensions of CommonMark, and four sets of them.
+
+    ``COMMONMARK`` is empty, and the default of each call. ``GITHUB`` is what GitHub reads: tables, footnotes,
+    strikethrough, task lists, and tags of block quotes. ``DOCS`` adds what documentation uses: YAML metadata, heading
+    attributes, math and definition lists. ``ALL`` is all.
+    """
 
     COMMONMARK = 0
     TABLES = 2
@@ -25,6 +30,7 @@ class Options(enum.IntFlag):
     SUBSCRIPT = 16384
     WIKILINKS = 32768
     GITHUB = 2078
+    DOCS = 7390
     ALL = 65534
 
     @classmethod

@@ -16,7 +16,7 @@ Text = Union[str, bytes, bytearray, memoryview]
 _OPTION_LIMIT = 1 << 32
 
 
-def parse(text: Text, options: int = Options.ALL) -> Document:
+def parse(text: Text, options: int = Options.COMMONMARK) -> Document:
     """Parses a Markdown text: a string, or its bytes in UTF-8.
 
     Other threads of the interpreter run meanwhile. `MarkdownError` says what is wrong with the text or the options.
@@ -28,7 +28,7 @@ def parse(text: Text, options: int = Options.ALL) -> Document:
     return read_document(text if type(text) is bytes else _encoded(text), bits)
 
 
-def outline(text: Text, options: int = Options.ALL) -> list[Heading]:
+def outline(text: Text, options: int = Options.COMMONMARK) -> list[Heading]:
     """The headings of a text, in reading order."""
     return parse(text, options).outline()
 
