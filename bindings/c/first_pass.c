@@ -63,6 +63,10 @@ HAS_SIZE(arrays, 64);
 IS_AT(range, start, 0);
 IS_AT(range, end, 8);
 HAS_SIZE(range, 16);
+IS_AT(place, line, 0);
+IS_AT(place, column, 8);
+IS_AT(place, utf16_column, 16);
+HAS_SIZE(place, 24);
 _Static_assert(sizeof(size_t) == 8, "the proved calls are compiled for 64 bits");
 
 /* How deep a tree is that first_pass_walk walks without memory. */
@@ -71,6 +75,8 @@ _Static_assert(sizeof(size_t) == 8, "the proved calls are compiled for 64 bits")
 #define DENSE_BYTES (UINT64_C(32) << 20)
 /* How long the folding of a label is that first_pass_find compares without memory. */
 #define SMALL_FOLDING 256
+/* How many bytes of a text are between two places of its table. */
+#define PLACE_STEP 256
 
 static void *allocate_standard(void *data, size_t bytes) {
     (void)data;
@@ -475,6 +481,47 @@ int first_pass_walk(const struct first_pass_tree *tree, first_pass_visit *enter,
         allocator->release(allocator->data, walk.path);
     }
     return answer;
+}
+
+/* Moves a place past the byte at its offset. */
+static void pass_byte(struct first_pass_place *place, const char *text, size_t length, size_t offset) {
+    uint8_t byte = (uint8_t)text[offset];
+    bool is_before_newline = offset + 1 < length && text[offset + 1] == '\n';
+    if (byte == '\n' || (byte == '\r' && !is_before_newline)) {
+        *place = (struct first_pass_place){place->line + 1, 1, 1};
+        return;
+    }
+    place->column++;
+    /* (the first byte of a character counts for all of it, and that of one with four bytes twice) */
+    bool is_first = (byte & 0xc0) != 0x80;
+    place->utf16_column += is_first ? (byte < 0xf0 ? 1 : 2) : 0;
+}
+
+size_t first_pass_place_count(size_t length) {
+    return length / PLACE_STEP + 1;
+}
+
+void first_pass_places(const char *text, size_t length, struct first_pass_place *places) {
+    struct first_pass_place place = {1, 1, 1};
+    places[0] = place;
+    for (size_t offset = 0; offset < length; offset++) {
+        pass_byte(&place, text, length, offset);
+        if ((offset + 1) % PLACE_STEP == 0) {
+            places[(offset + 1) / PLACE_STEP] = place;
+        }
+    }
+}
+
+uint32_t first_pass_line_column(const char *text, size_t length, const struct first_pass_place *places, size_t offset,
+                                struct first_pass_place *place) {
+    if (offset > length) {
+        return 0;
+    }
+    *place = places[offset / PLACE_STEP];
+    for (size_t passed = offset - offset % PLACE_STEP; passed < offset; passed++) {
+        pass_byte(place, text, length, passed);
+    }
+    return 1;
 }
 
 const char *first_pass_kind_name(uint8_t kind) {

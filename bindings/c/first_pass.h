@@ -15,7 +15,8 @@
  *     }
  *
  * A text is bytes of UTF-8. A tree holds no pointer into its text: a range is two offsets, counted in bytes. The text
- * may be freed as soon as the call returns.
+ * may be freed as soon as the call returns. first_pass_places() and first_pass_line_column() give the line and the
+ * column of an offset.
  *
  * first_pass_read(), first_pass_fold() and first_pass_name_range() are proved. The other calls are C over these, and
  * are tested.
@@ -300,6 +301,49 @@ struct first_pass_range {
  */
 FIRST_PASS_API uint32_t first_pass_name_range(const char *text, size_t length, const struct first_pass_node *node,
                                               struct first_pass_range *range);
+
+/** A place in a text, as people and editors count: 24 bytes. Lines and columns are counted from 1. */
+struct first_pass_place {
+    size_t line;         /**< a line ends at a newline, a carriage return, or both */
+    size_t column;       /**< in bytes of UTF-8 */
+    size_t utf16_column; /**< in units of UTF-16: a character above U+FFFF takes two */
+};
+
+/**
+ * @brief How many places the table of a text takes, which first_pass_places() fills.
+ *
+ * They take about a tenth of the text's bytes.
+ *
+ * @param[in] length how many bytes the text has
+ */
+FIRST_PASS_API size_t first_pass_place_count(size_t length);
+
+/**
+ * @brief Fills the table of a text, by which first_pass_line_column() finds lines and columns. Nothing is allocated.
+ *
+ * The table has the places of offsets at equal distances.
+ *
+ * @param[in] text bytes of UTF-8; may be NULL if `length` is 0
+ * @param[in] length how many there are
+ * @param[out] places an array for first_pass_place_count(length) places
+ */
+FIRST_PASS_API void first_pass_places(const char *text, size_t length, struct first_pass_place *places);
+
+/**
+ * @brief Finds the line and the columns of an offset, such as the start of a node. Nothing is allocated.
+ *
+ * It reads less than 256 bytes, however long a line is. The offset between a carriage return and its newline is in the
+ * line that they end. An offset within a character has the UTF-16 column of the character's end.
+ *
+ * @param[in] text the text that the table was filled for; may be NULL if `length` is 0
+ * @param[in] length how many bytes it has
+ * @param[in] places its table
+ * @param[in] offset in bytes; `length` is that of the end of the text
+ * @param[out] place the place; unchanged if 0 is returned
+ * @return 1; or 0 if the offset is after the end of the text
+ */
+FIRST_PASS_API uint32_t first_pass_line_column(const char *text, size_t length, const struct first_pass_place *places,
+                                               size_t offset, struct first_pass_place *place);
 
 /**
  * @brief Where memory comes from.

@@ -17,12 +17,17 @@
 
 static int reports;
 
-static size_t line_of(const char *text, size_t offset) {
-    size_t line = 1;
-    for (size_t i = 0; i < offset; i++) {
-        line += text[i] == '\n';
-    }
-    return line;
+/* A text with the table of its places. */
+struct source {
+    const char *text;
+    size_t length;
+    struct first_pass_place *places;
+};
+
+static size_t line_of(const struct source *source, size_t offset) {
+    struct first_pass_place place = {0};
+    first_pass_line_column(source->text, source->length, source->places, offset, &place);
+    return place.line;
 }
 
 /* The index of the `]` that is the next bracket after a node, in the same block; 0 if there is none. */
@@ -40,7 +45,7 @@ static size_t closing_bracket(const struct first_pass_tree *tree, size_t open) {
 }
 
 /* Checks the label after a `]`, if one stands there. */
-static void check_reference(const struct first_pass_tree *tree, const char *text, size_t close) {
+static void check_reference(const struct first_pass_tree *tree, const struct source *source, size_t close) {
     const struct first_pass_definition *found;
     size_t open = first_pass_next_sibling(tree, close);
     if (open == 0 || tree->nodes[open].kind != FIRST_PASS_NODE_MAYBE_LINK_OPEN) {
@@ -50,10 +55,10 @@ static void check_reference(const struct first_pass_tree *tree, const char *text
     if (end == 0 || tree->nodes[open].start != tree->nodes[close].end) {
         return;
     }
-    const char *label = text + tree->nodes[open].end;
+    const char *label = source->text + tree->nodes[open].end;
     size_t length = tree->nodes[end].start - tree->nodes[open].end;
     if (length > 0 && first_pass_find(tree, label, length, &found) == FIRST_PASS_OK && found == NULL) {
-        printf("%zu: no definition of [%.*s]\n", line_of(text, tree->nodes[open].start), (int)length, label);
+        printf("%zu: no definition of [%.*s]\n", line_of(source, tree->nodes[open].start), (int)length, label);
         reports++;
     }
 }
@@ -65,7 +70,7 @@ static bool is_file(const char *destination) {
            strncmp(destination, "//", 2) != 0;
 }
 
-static void check_definition(const struct first_pass_tree *tree, const char *text,
+static void check_definition(const struct first_pass_tree *tree, const struct source *source,
                              const struct first_pass_definition *it) {
     char *destination = strndup(tree->names + it->destination, it->destination_length);
     if (destination == NULL) {
@@ -75,21 +80,21 @@ static void check_definition(const struct first_pass_tree *tree, const char *tex
     if (is_file(destination)) {
         destination[strcspn(destination, "?#")] = '\0';
         if (access(destination, F_OK) != 0) {
-            printf("%zu: no file %s\n", line_of(text, it->start), destination);
+            printf("%zu: no file %s\n", line_of(source, it->start), destination);
             reports++;
         }
     }
     free(destination);
 }
 
-static void check_links(const struct first_pass_tree *tree, const char *text) {
+static void check_links(const struct first_pass_tree *tree, const struct source *source) {
     for (size_t i = 0; i < tree->node_count; i++) {
         if (tree->nodes[i].kind == FIRST_PASS_NODE_MAYBE_LINK_CLOSE) {
-            check_reference(tree, text, i);
+            check_reference(tree, source, i);
         }
     }
     for (size_t i = 0; i < tree->link_count; i++) {
-        check_definition(tree, text, &tree->definitions[i]);
+        check_definition(tree, source, &tree->definitions[i]);
     }
 }
 
@@ -108,8 +113,16 @@ int main(void) {
         fprintf(stderr, "link_checker: %s\n", first_pass_status_message(status));
         return 2;
     }
-    check_links(tree, text);
+    struct source source = {text, (size_t)length, NULL};
+    source.places = malloc(first_pass_place_count(source.length) * sizeof *source.places);
+    if (source.places == NULL) {
+        fputs("link_checker: out of memory\n", stderr);
+        return 2;
+    }
+    first_pass_places(text, source.length, source.places);
+    check_links(tree, &source);
     first_pass_tree_free(tree);
+    free(source.places);
     free(text);
     return reports != 0;
 }

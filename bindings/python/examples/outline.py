@@ -11,9 +11,9 @@ import first_pass
 
 def main():
     for name in sys.argv[1:]:
-        source = Path(name).read_bytes()
-        for heading in first_pass.outline(source, first_pass.Options.GITHUB):
-            line = source.count(b"\n", 0, heading.start) + 1
+        document = first_pass.parse(Path(name).read_bytes(), first_pass.Options.GITHUB)
+        for heading in document.outline():
+            line, _column = document.line_column(heading.start)
             print(f"{name}:{line}: {'  ' * (heading.level - 1)}{heading.title}")
 
 

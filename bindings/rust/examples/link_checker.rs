@@ -3,7 +3,7 @@
 //! It reports each reference, as `[text][label]` or `[label][]`, whose label has no definition, and each definition
 //! that nothing refers to. The status is 1 if it reports any, and 2 if a file can't be read.
 
-use first_pass::{Body, Node, Options, Tree};
+use first_pass::{Body, LineIndex, Node, Options, Tree};
 use std::collections::HashSet;
 use std::error::Error;
 use std::io::{self, Write};
@@ -30,9 +30,10 @@ fn run() -> Result<bool, Box<dyn Error>> {
         let name = file.display();
         let text = fs::read_to_string(&file).map_err(|e| format!("{name}: {e}"))?;
         let document = first_pass::parse(&text, Options::all())?;
+        let index = LineIndex::new(&text)?;
         for (offset, report) in check(document.tree())? {
-            let line = text[..offset].matches('\n').count() + 1;
-            writeln!(output, "{name}:{line}: {report}")?;
+            let place = index.line_column(offset).expect("a node is in the text");
+            writeln!(output, "{name}:{}: {report}", place.line)?;
             any = true;
         }
     }

@@ -3,7 +3,8 @@
 //!
 //! [`parse`] reads a text, and returns a [`Document`]. Its [`Tree`] has the blocks as [`Node`]s: paragraphs, headings,
 //! lists, quotes, code, tables and more. Each block holds the chain of its possible inline markup as tokens. Beside
-//! the nodes there are the link [`Definitions`] and the labels of footnotes.
+//! the nodes there are the link [`Definitions`] and the labels of footnotes. A [`LineIndex`] has the lines and columns
+//! of a text.
 //!
 //! ```
 //! use first_pass::Options;
@@ -45,6 +46,7 @@ pub use error::Error;
 pub use events::{Event, OffsetIter};
 pub use options::Options;
 pub use outline::Heading;
+pub use place::{LineIndex, Place};
 pub use tree::{Node, Tree};
 
 mod archive;
@@ -56,6 +58,7 @@ mod error;
 mod events;
 mod options;
 mod outline;
+mod place;
 mod records;
 #[cfg(test)]
 mod tests;

@@ -78,3 +78,9 @@ fn look_up() {
     let requests = refuse_each(|| document.tree().definitions().get("3"));
     assert!(requests >= 3, "{requests}");
 }
+
+#[test]
+fn lines_and_columns() {
+    let text = "a\n".repeat(1000);
+    assert_eq!(refuse_each(|| first_pass::LineIndex::new(&text)), 1);
+}

@@ -13,6 +13,8 @@ reads CommonMark, with no extension.
     ('/2', 'b', "'b'")
     >>> document[1].members()["id"]
     'first'
+    >>> document.line_column(document[3].start)
+    Place(line=3, column=1)
 
 `parse` and `outline` read a text, `parse_many` reads many in threads. A `Document` is a sequence of nodes.
 """
@@ -25,7 +27,7 @@ from ._many import parse_many
 from ._options import Options
 from ._parse import Text, outline, parse
 from ._records import Kind
-from ._values import Attribute, Definition, Heading, Node, Span
+from ._values import Attribute, Definition, Heading, Node, Place, Span
 
 __all__ = [
     "Attribute",
@@ -37,6 +39,7 @@ __all__ = [
     "MarkdownError",
     "Node",
     "Options",
+    "Place",
     "Span",
     "Text",
     "__version__",

@@ -3,12 +3,13 @@
 from __future__ import annotations
 
 import builtins
+import operator
 from collections.abc import Iterator, Mapping, Sequence
 from typing import TYPE_CHECKING, Any, Union, overload
 
-from ._library import COMPATIBLE, fold_label, name_range
+from ._library import COMPATIBLE, LineIndex, fold_label, name_range
 from ._records import ATTRIBUTE, BYTE_COLUMNS, DEFINITION, KIND_NAMES, NODE, WORD_BYTES, WORD_COLUMNS, Kind
-from ._values import Attribute, Definition, Heading, Node, Span, id_of
+from ._values import Attribute, Definition, Heading, Node, Place, Span, id_of
 
 if TYPE_CHECKING:
     from numpy.typing import NDArray
@@ -28,7 +29,7 @@ class Document(Sequence[Node]):
     be changed, and it can be pickled.
     """
 
-    __slots__ = ("_source", "_nodes", "_names", "_attributes", "_definitions", "_kinds", "_by_label")
+    __slots__ = ("_source", "_nodes", "_names", "_attributes", "_definitions", "_kinds", "_by_label", "_index")
 
     def __init__(self, source: bytes, nodes: bytes, names: bytes, attributes: bytes, definitions: bytes) -> None:
         self._source = source
@@ -38,6 +39,7 @@ class Document(Sequence[Node]):
         self._definitions = definitions
         self._kinds: bytes | None = None
         self._by_label: Definitions | None = None
+        self._index: LineIndex | None = None
 
     @property
     def source(self) -> bytes:
@@ -168,6 +170,25 @@ class Document(Sequence[Node]):
         place = range(len(self))[index] * NODE.size
         found = name_range(self._source, self._nodes[place : place + NODE.size])
         return None if found is None else Span(*found)
+
+    def line_column(self, offset: int, encoding: str = "utf-16") -> Place:
+        """The line and the column of an offset in bytes, such as the start of a node, both from 1.
+
+        A column counts units of ``"utf-16"``, as most editors do, or bytes of ``"utf-8"``. A line ends at a newline, a
+        carriage return, or both. The offset between these two is in the line that they end. An offset within a
+        character has the UTF-16 column of the character's end.
+
+        The first call reads the whole text, and later ones less than 256 bytes, however long a line is.
+        """
+        if encoding not in ("utf-8", "utf-16"):
+            raise ValueError(f"the encoding is utf-8 or utf-16, and not {encoding}")
+        place = operator.index(offset)
+        if not 0 <= place <= len(self._source):
+            raise IndexError(f"there is no offset {place}: the text has {len(self._source)} bytes")
+        if self._index is None:
+            self._index = LineIndex(self._source)
+        line, column, utf16_column = self._index.place(place)
+        return Place(line, column if encoding == "utf-8" else utf16_column)
 
     def _records(self) -> tuple[bytes, bytes, bytes, bytes, bytes]:
         return self._source, self._nodes, self._names, self._attributes, self._definitions

@@ -48,6 +48,20 @@ _name_range = _library.first_pass_name_range
 _name_range.restype = ctypes.c_uint32
 _name_range.argtypes = [ctypes.c_char_p, ctypes.c_size_t, ctypes.c_char_p, ctypes.c_size_t * 2]
 
+_place_count = _library.first_pass_place_count
+_place_count.restype = ctypes.c_size_t
+_place_count.argtypes = [ctypes.c_size_t]
+
+_places = _library.first_pass_places
+_places.restype = None
+_places.argtypes = [ctypes.c_char_p, ctypes.c_size_t, ctypes.c_void_p]
+
+_line_column = _library.first_pass_line_column
+_line_column.restype = ctypes.c_uint32
+# (a place is its line, its column in bytes, and its column in units of UTF-16)
+_PlaceRecord = ctypes.c_size_t * 3
+_line_column.argtypes = [ctypes.c_char_p, ctypes.c_size_t, ctypes.c_void_p, ctypes.c_size_t, _PlaceRecord]
+
 _WHITE = re.compile(rb"[\t\n\x0b\x0c\r ]+")
 
 
@@ -66,6 +80,24 @@ def name_range(source: bytes, record: bytes) -> tuple[int, int] | None:
     memory = (ctypes.c_size_t * 2)()
     found = _name_range(source, len(source), record, memory)
     return (memory[0], memory[1]) if found else None
+
+
+class LineIndex:
+    """The lines and columns of a text."""
+
+    __slots__ = ("_source", "_places")
+
+    def __init__(self, source: bytes) -> None:
+        self._source = source
+        self._places = (_PlaceRecord * _place_count(len(source)))()
+        _places(source, len(source), self._places)
+
+    def place(self, offset: int) -> tuple[int, int, int]:
+        """The line of an offset of the text, its column in bytes, and its column in units of UTF-16."""
+        memory = _PlaceRecord()
+        _line_column(self._source, len(self._source), self._places, offset, memory)
+        line, column, utf16_column = memory
+        return line, column, utf16_column
 
 
 def _folded(label: bytes, room: int) -> bytes:

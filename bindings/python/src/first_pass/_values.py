@@ -35,6 +35,13 @@ class Span(NamedTuple):
     end: int
 
 
+class Place(NamedTuple):
+    """A line and a column in it, both from 1."""
+
+    line: int
+    column: int
+
+
 class Definition(NamedTuple):
     """A link reference definition: the first one of its label. Its ranges are those of its parts in the source."""
 
