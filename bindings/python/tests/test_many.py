@@ -23,6 +23,29 @@ class ManyTest(unittest.TestCase):
         self.assertEqual(found[:4], [parse("a")] * 4)
         self.assertEqual(len(found[4].source), 4)
 
+    def test_a_text_that_is_filled_again(self):
+        text = bytearray(b"# 0\n")
+
+        def texts(view):
+            for number in range(6):
+                text[2] = ord("0") + number
+                yield view
+
+        expected = [parse(f"# {number}\n") for number in range(6)]
+        for view in (text, memoryview(text)):
+            for threads, chunk_bytes in itertools.product((1, 3), (1, 1 << 18)):
+                self.assertEqual(list(parse_many(texts(view), threads=threads, chunk_bytes=chunk_bytes)), expected)
+
+    def test_strings_of_a_class(self):
+        class Shouted(str):
+            def encode(self, *_words):
+                return b"no"
+
+            def __len__(self):
+                return 1 << 40
+
+        self.assertEqual(list(parse_many([Shouted("# a"), "b"], threads=2)), [parse("# a"), parse("b")])
+
     def test_no_text(self):
         self.assertEqual(list(parse_many([])), [])
         self.assertEqual(list(parse_many(["", ""], threads=2)), [parse("")] * 2)
@@ -64,6 +87,8 @@ class ManyTest(unittest.TestCase):
         for given, kind in (([5], TypeError), (["a", None], TypeError)):
             with self.assertRaises(kind):
                 list(parse_many(given, threads=2))
+        with self.assertRaisesRegex(TypeError, "^text 1: a text is a str, .* and no int$"):
+            list(parse_many(["a", 5]))
 
     def test_what_the_iterable_raises(self):
         def texts():

@@ -37,6 +37,19 @@ class TextTest(unittest.TestCase):
         source[:] = b"bbbb"
         self.assertEqual(document.source, b"# a\n")
 
+    def test_a_string_of_a_class_is_read_as_a_string(self):
+        class Longer(bytes):
+            def __len__(self):
+                return 1 << 20
+
+        class Shouted(str):
+            def encode(self, *_words):
+                return Longer(b"# no")
+
+        self.assertEqual(parse(Shouted("# a")), parse("# a"))
+        self.assertEqual(parse(Longer(b"# a")), parse("# a"))
+        self.assertEqual(parse("[a]: /b").definitions[Shouted("A")].destination, "/b")
+
     def test_empty(self):
         self.assertEqual([node.kind for node in parse("")], ["Root"])
         self.assertEqual(parse("").outline(), [])

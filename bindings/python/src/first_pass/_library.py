@@ -69,7 +69,7 @@ def fold_label(label: str) -> bytes | None:
     """What a label is compared by: each run of white space as one space, with full case folding. None stands for a
     label that UTF-8 can't hold."""
     try:
-        spelled = _WHITE.sub(b" ", label.encode())
+        spelled = _WHITE.sub(b" ", str.encode(label))
     except UnicodeEncodeError:
         return None
     return _folded(spelled, 3 * len(spelled) + 1)

@@ -10,7 +10,7 @@ from ._document import Document
 from ._errors import MarkdownError
 from ._options import Options
 from ._order import in_order, processors
-from ._parse import Text, parse
+from ._parse import Text, parse, unchanging
 
 # Texts, and the place of the first.
 Chunk = tuple[int, list[Text]]
@@ -26,7 +26,8 @@ def parse_many(
     """Parses texts in threads, and yields their documents in the same order.
 
     A thread takes texts in chunks of about ``chunk_bytes``. Two chunks for each thread are taken ahead, so memory
-    stays bounded. Without ``threads`` there are as many as processors; with one, the caller's thread parses.
+    stays bounded. Without ``threads`` there are as many as processors; with one, the caller's thread parses. A text
+    that can be changed, such as a ``bytearray``, is copied when it is taken. So it can be filled again for the next.
 
     If a text can't be parsed, the documents before it are yielded first. Then its exception is raised, with its place:
     ``text 3: not UTF-8: byte 17``. A `MarkdownError` has the place as its ``index``. What the iterable raises comes
@@ -57,9 +58,10 @@ class _Chunks:
         size = 0
         try:
             while self.fault is None and size < self._chunk_bytes and len(chunk) < _CHUNK_TEXTS:
-                text = next(self._texts)
+                text = unchanging(next(self._texts))
                 chunk.append(text)
-                size += len(text) if isinstance(text, (str, bytes, bytearray)) else memoryview(text).nbytes
+                # (what is no text is found when it is parsed)
+                size += len(text) if isinstance(text, (str, bytes)) else 0
         except StopIteration:
             pass
         except Exception as error:

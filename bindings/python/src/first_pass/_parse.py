@@ -33,11 +33,24 @@ def outline(text: Text, options: int = Options.COMMONMARK) -> list[Heading]:
     return parse(text, options).outline()
 
 
+def unchanging(text: Text) -> Text:
+    """A text that stays as it is: a string or bytes, and of what can be changed a copy. What is no text comes back."""
+    if type(text) in (str, bytes):
+        return text
+    if isinstance(text, str):
+        return str.__str__(text)
+    try:
+        return memoryview(text).tobytes()
+    except TypeError:
+        return text
+
+
 def _encoded(text: Text) -> bytes:
     """The bytes of a text."""
     if isinstance(text, str):
         try:
-            return text.encode()
+            # (a class of strings may have an `encode` of its own)
+            return str.encode(text)
         except UnicodeEncodeError as error:
             message = f"not UTF-8: the string has a lone surrogate at index {error.start}"
             raise MarkdownError(message, NOT_UTF8) from None
