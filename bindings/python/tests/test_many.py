@@ -90,15 +90,32 @@ class ManyTest(unittest.TestCase):
         with self.assertRaisesRegex(TypeError, "^text 1: a text is a str, .* and no int$"):
             list(parse_many(["a", 5]))
 
+    def test_errors_in_the_place_of_documents(self):
+        given = [*TEXTS[:300], b"\xff", None, "\ud800", *TEXTS[:300], b"a\xff"]
+        expected = [parse(text) for text in TEXTS[:300]]
+        for threads, chunk_bytes in itertools.product((1, 3), (1, 60, 1 << 18)):
+            found = list(parse_many(given, threads=threads, chunk_bytes=chunk_bytes, on_error="yield"))
+            self.assertEqual((found[:300], found[303:603]), (expected, expected))
+            self.assertEqual([type(found[place]) for place in (300, 301)], [MarkdownError, TypeError])
+            messages = {
+                300: "text 300: not UTF-8: byte 0",
+                301: "text 301: a text is a str, or bytes, bytearray or memoryview in UTF-8, and no NoneType",
+                302: "text 302: not UTF-8: the string has a lone surrogate at index 0",
+                603: "text 603: not UTF-8: byte 1",
+            }
+            self.assertEqual({place: str(found[place]) for place in messages}, messages)
+            self.assertEqual([found[place].index for place in (300, 302, 603)], [300, 302, 603])
+            self.assertEqual(len(found), 604)
+
     def test_what_the_iterable_raises(self):
         def texts():
             yield from TEXTS[:600]
             raise FileNotFoundError("no.md")
 
-        for threads in (1, 3):
+        for threads, on_error in itertools.product((1, 3), ("raise", "yield")):
             found = []
             with self.assertRaisesRegex(FileNotFoundError, "no.md"):
-                for document in parse_many(texts(), threads=threads):
+                for document in parse_many(texts(), threads=threads, on_error=on_error):
                     found.append(document)
             self.assertEqual(len(found), 600)
 
@@ -106,8 +123,11 @@ class ManyTest(unittest.TestCase):
         for given in ({"threads": 0}, {"threads": -1}, {"chunk_bytes": 0}):
             with self.assertRaisesRegex(ValueError, "have to be at least 1"):
                 parse_many([], **given)
-        with self.assertRaisesRegex(MarkdownError, "^text 0: bad options: 1$"):
-            list(parse_many(["a"], 1))
+        with self.assertRaisesRegex(ValueError, "^on_error is raise or yield, and not skip$"):
+            parse_many([], on_error="skip")
+        for on_error in ("raise", "yield"):
+            with self.assertRaisesRegex(MarkdownError, "^bad options: 1$"):
+                parse_many([], 1, on_error=on_error)
 
 
 if __name__ == "__main__":

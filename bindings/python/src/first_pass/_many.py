@@ -4,7 +4,7 @@ from __future__ import annotations
 
 from collections.abc import Iterable, Iterator
 from functools import partial
-from typing import Optional
+from typing import Callable, Literal, Union, overload
 
 from ._document import Document
 from ._errors import MarkdownError
@@ -14,29 +14,65 @@ from ._parse import Text, parse, unchanging
 
 # Texts, and the place of the first.
 Chunk = tuple[int, list[Text]]
-# The documents of a chunk, up to the first text that can't be parsed, and what is wrong with that one.
-Parsed = tuple[list[Document], Optional[Exception]]
+# What comes of a text: its document, or what is wrong with it.
+Result = Union[Document, Exception]
 
 _CHUNK_TEXTS = 256
 
 
+@overload
 def parse_many(
-    texts: Iterable[Text], options: int = Options.COMMONMARK, *, threads: int | None = None, chunk_bytes: int = 1 << 18
+    texts: Iterable[Text],
+    options: int = ...,
+    *,
+    threads: int | None = ...,
+    chunk_bytes: int = ...,
+    on_error: Literal["raise"] = ...,
 ) -> Iterator[Document]:
+    ...
+
+
+@overload
+def parse_many(
+    texts: Iterable[Text],
+    options: int = ...,
+    *,
+    threads: int | None = ...,
+    chunk_bytes: int = ...,
+    on_error: Literal["yield"],
+) -> Iterator[Result]:
+    ...
+
+
+def parse_many(
+    texts: Iterable[Text],
+    options: int = Options.COMMONMARK,
+    *,
+    threads: int | None = None,
+    chunk_bytes: int = 1 << 18,
+    on_error: Literal["raise", "yield"] = "raise",
+) -> Iterator[Result]:
     """Parses texts in threads, and yields their documents in the same order.
 
     A thread takes texts in chunks of about ``chunk_bytes``. Two chunks for each thread are taken ahead, so memory
     stays bounded. Without ``threads`` there are as many as processors; with one, the caller's thread parses. A text
     that can be changed, such as a ``bytearray``, is copied when it is taken. So it can be filled again for the next.
 
-    If a text can't be parsed, the documents before it are yielded first. Then its exception is raised, with its place:
-    ``text 3: not UTF-8: byte 17``. A `MarkdownError` has the place as its ``index``. What the iterable raises comes
-    out in the same way.
+    If a text can't be parsed, its exception says its place: ``text 3: not UTF-8: byte 17``. A `MarkdownError` has the
+    place as its ``index``. With ``on_error="raise"`` the documents before it are yielded first, and then it is raised.
+    With ``on_error="yield"`` it is yielded in the place of its document, and the texts after it are parsed. What the
+    iterable raises comes after the documents of the texts before, and is raised in both cases. Bad options are raised
+    before a text is taken.
     """
     count = processors() if threads is None else threads
     if count < 1 or chunk_bytes < 1:
         raise ValueError("threads and chunk_bytes have to be at least 1")
-    return _documents(_Chunks(texts, chunk_bytes), options, count)
+    if on_error not in ("raise", "yield"):
+        raise ValueError(f"on_error is raise or yield, and not {on_error}")
+    parse_text = partial(parse, options=options)
+    parse_text("")
+    chunks = _Chunks(texts, chunk_bytes)
+    return _results(in_order(partial(_parse_chunk, parse_text), chunks, count), chunks, on_error)
 
 
 class _Chunks:
@@ -69,24 +105,25 @@ class _Chunks:
         return chunk
 
 
-def _documents(chunks: _Chunks, options: int, threads: int) -> Iterator[Document]:
-    for documents, fault in in_order(partial(_parse_chunk, options=options), chunks, threads):
-        yield from documents
-        if fault is not None:
-            raise fault
+def _results(parsed: Iterator[list[Result]], chunks: _Chunks, on_error: str) -> Iterator[Result]:
+    for results in parsed:
+        for result in results:
+            if isinstance(result, Exception) and on_error == "raise":
+                raise result
+            yield result
     if chunks.fault is not None:
         raise chunks.fault
 
 
-def _parse_chunk(chunk: Chunk, options: int) -> Parsed:
+def _parse_chunk(parse_text: Callable[[Text], Document], chunk: Chunk) -> list[Result]:
     place, texts = chunk
-    documents: list[Document] = []
+    results: list[Result] = []
     for text in texts:
         try:
-            documents.append(parse(text, options))
+            results.append(parse_text(text))
         except Exception as error:
-            return documents, _placed(error, place + len(documents))
-    return documents, None
+            results.append(_placed(error, place + len(results)))
+    return results
 
 
 def _placed(error: Exception, index: int) -> Exception:
