@@ -1,10 +1,12 @@
 """The command `python3 -m first_pass`."""
 
 import contextlib
+import itertools
 import json
 import os
 import pty
 import re
+import resource
 import subprocess
 import sys
 import tempfile
@@ -103,36 +105,64 @@ class FaultTest(CommandTest):
 
     def test_output_that_can_not_be_written(self):
         name = self.write("a.md", b"# a\n" * 1000)
-        for command in ("outline", "tree"):
-            for unbuffered in ("", "1"):
-                with open("/dev/full", "wb") as full:
-                    ran = subprocess.run(
-                        [*COMMAND, command, name, name],
-                        env={**os.environ, "PYTHONUNBUFFERED": unbuffered},
-                        stdout=full,
-                        stderr=subprocess.PIPE,
-                        check=False,
-                    )
-                self.check(ran, 2, ["first_pass: F/a.md: write failed"])
+        for words in (["outline", name, name], ["tree", name, name]):
+            self.check_on_full_disk(words, "F/a.md: write failed")
+        for words in (["--help"], ["--version"], ["outline", "--help"]):
+            self.check_on_full_disk(words, "write failed")
         for closed, fault in (
             (">&-", "F/a.md: write failed"),
             ("<&-", "standard input: can't be read: standard input is closed"),
         ):
             file = "-" if closed[0] == "<" else name
-            ran = subprocess.run(
-                ["sh", "-c", f'exec "$@" {closed}', "sh", *COMMAND, "outline", file],
-                stderr=subprocess.PIPE,
-                check=False,
-            )
+            self.check(self.run_by_shell(f'exec "$@" {closed}', "outline", file), 2, [f"first_pass: {fault}"])
+
+    def check_on_full_disk(self, words, fault):
+        for unbuffered in ("", "1"):
+            with open("/dev/full", "wb") as full:
+                ran = subprocess.run(
+                    [*COMMAND, *words],
+                    env={**os.environ, "PYTHONUNBUFFERED": unbuffered},
+                    stdout=full,
+                    stderr=subprocess.PIPE,
+                    check=False,
+                )
             self.check(ran, 2, [f"first_pass: {fault}"])
+
+    def run_by_shell(self, code, *words):
+        return subprocess.run(["sh", "-c", code, "sh", *COMMAND, *words], capture_output=True, check=False)
+
+    def test_a_write_of_a_part(self):
+        """A file may have 100 bytes, so the system takes only these of what is written at once."""
+        name = self.write("a.md", b"# " + b"a" * 200)
+        for command, unbuffered in itertools.product(("outline", "tree"), ("", "1")):
+            with open(self.folder / "output", "wb") as output:
+                ran = subprocess.run(
+                    [*COMMAND, command, name],
+                    env={**os.environ, "PYTHONUNBUFFERED": unbuffered},
+                    stdout=output,
+                    stderr=subprocess.PIPE,
+                    preexec_fn=lambda: resource.setrlimit(resource.RLIMIT_FSIZE, (100, 100)),
+                    check=False,
+                )
+            self.check(ran, 2, ["first_pass: F/a.md: write failed"])
 
     def test_a_reader_that_ends_early(self):
         name = self.write("a.md", b"# a\n" * 100_000)
-        with subprocess.Popen([*COMMAND, "tree", name], stdout=subprocess.PIPE, stderr=subprocess.PIPE) as ran:
-            ran.stdout.read(10)
-            ran.stdout.close()
-            self.assertEqual(ran.stderr.read(), f"first_pass: {name}: write failed\n".encode())
-        self.assertEqual(ran.returncode, 2)
+        for unbuffered in ("", "1"):
+            how = {"stdout": subprocess.PIPE, "stderr": subprocess.PIPE}
+            how["env"] = {**os.environ, "PYTHONUNBUFFERED": unbuffered}
+            with subprocess.Popen([*COMMAND, "tree", name], **how) as ran:
+                ran.stdout.read(10)
+                ran.stdout.close()
+                self.assertEqual(ran.stderr.read(), b"")
+            self.assertEqual(ran.returncode, 2)
+
+    def test_faults_that_can_not_be_written(self):
+        none = str(self.folder / "none.md")
+        for code in ('exec "$@" 2>&-', 'exec "$@" 2> /dev/full'):
+            for words in (["outline", none], ["outline", "--no"], ["tree", none, none]):
+                self.check(self.run_by_shell(code, *words), 2, [])
+                self.assertEqual(self.run_by_shell(code, *words).stdout, b"")
 
     def test_wrong_words(self):
         for words, message in {
@@ -147,6 +177,8 @@ class FaultTest(CommandTest):
             ran = run(*words)
             self.assertEqual((ran.returncode, ran.stdout), (2, b""))
             self.assertIn(message, ran.stderr.decode())
+        for word in ("--\x1b[2J\u202e", b"--\xff"):
+            self.assertRegex(run("outline", word).stderr, rb"unrecognized arguments: --\\(u001b\[2J\\u202e|xff)\n$")
 
     def test_help(self):
         self.assertIn(b"--options NAMES", run("--help").stdout)

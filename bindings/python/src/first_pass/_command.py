@@ -4,13 +4,12 @@ from __future__ import annotations
 
 import argparse
 import os
-import re
 import signal
 import sys
 import time
 from collections.abc import Iterable, Iterator, Sequence
 from functools import partial
-from typing import Any, Callable, NamedTuple
+from typing import IO, Any, Callable, NamedTuple, NoReturn
 
 from . import __version__
 from ._document import Document
@@ -19,6 +18,7 @@ from ._lines import json_line, json_lines
 from ._options import Options
 from ._order import in_order, processors
 from ._parse import parse
+from ._streams import draw, say, shown, write, write_lines
 
 _DESCRIPTION = """\
 outline: write a line of JSON for each file, with its name and its headings.
@@ -29,10 +29,9 @@ _EPILOG = """\
 Status: 0; 1 if memory ran out; 2 for a wrong word, a file that can't be read, a text that isn't UTF-8 or a failed
 write. With several files each is tried, and the status is the highest."""
 _FAILED = 2
+_NO_MEMORY = "out of memory"
 _BAR_COLUMNS = 30
 _BAR_SECONDS = 0.1
-# Characters that a terminal would obey, and those that reorder text. JSON has those below U+0020 as escapes.
-_UNSAFE = re.compile("[\x00-\x1f\x7f-\x9f\u061c\u200e\u200f\u202a-\u202e\u2066-\u2069]")
 
 
 class Output(NamedTuple):
@@ -45,8 +44,19 @@ class Output(NamedTuple):
 
 
 def main(words: Sequence[str] | None = None) -> int:
-    """Runs the command, and returns its status."""
-    arguments = _read_words(words)
+    """Runs the command, and returns its status. It ends quietly if nobody reads its output any more."""
+    try:
+        return _run(_read_words(words))
+    except BrokenPipeError:
+        return _FAILED
+    except OSError:
+        draw("first_pass: write failed\n")
+        return _FAILED
+    except KeyboardInterrupt:
+        return 128 + signal.SIGINT
+
+
+def _run(arguments: argparse.Namespace) -> int:
     files = arguments.files or ["-"]
     if arguments.command == "outline":
         made = partial(_output, lines_of=_outline_line, options=arguments.options)
@@ -54,15 +64,13 @@ def main(words: Sequence[str] | None = None) -> int:
     else:
         lines_of = _tree_lines if len(files) == 1 else _named_tree_lines
         outputs = map(partial(_output, lines_of=lines_of, options=arguments.options), files)
-    try:
-        return _write_all(outputs, len(files))
-    except KeyboardInterrupt:
-        return 128 + signal.SIGINT
+    return _write_all(outputs, len(files))
 
 
 def _read_words(words: Sequence[str] | None) -> argparse.Namespace:
-    parser = argparse.ArgumentParser(
-        "python3 -m first_pass",
+    program = os.path.basename(sys.argv[0])
+    parser = _Parser(
+        "python3 -m first_pass" if program == "__main__.py" else program,
         description=_DESCRIPTION,
         epilog=_EPILOG,
         formatter_class=argparse.RawDescriptionHelpFormatter,
@@ -78,6 +86,18 @@ def _read_words(words: Sequence[str] | None) -> argparse.Namespace:
     if arguments.threads and arguments.command != "outline":
         parser.error(f"{arguments.command} has no option --threads")
     return arguments
+
+
+class _Parser(argparse.ArgumentParser):
+    """A parser that writes as the rest of the command does."""
+
+    def _print_message(self, message: str, file: IO[str] | None = None) -> None:
+        write(file, [message])
+
+    def error(self, message: str) -> NoReturn:
+        lines = f"{self.format_usage()}{self.prog}: error: {message}".splitlines()
+        draw("".join(shown(line) + "\n" for line in lines))
+        sys.exit(_FAILED)
 
 
 class _Union(argparse.Action):
@@ -110,7 +130,7 @@ def _output(file: str, lines_of: Callable[[str, Document], Iterable[str]], optio
     except MarkdownError as error:
         return Output(file, fault=str(error), status=_FAILED)
     except MemoryError:
-        return Output(file, fault="out of memory", status=OUT_OF_MEMORY)
+        return Output(file, fault=_NO_MEMORY, status=OUT_OF_MEMORY)
     except FileNotFoundError:
         return Output(file, fault="no such file", status=_FAILED)
     except IsADirectoryError:
@@ -148,45 +168,23 @@ def _write_all(outputs: Iterator[Output], count: int) -> int:
     progress = _Progress(count)
     for output in outputs:
         try:
-            _write_lines(output.lines)
+            write_lines(output.lines)
+        except BrokenPipeError:
+            progress.clear()
+            raise
         except OSError:
             progress.clear()
-            _say(output.file, "write failed")
-            _discard_output()
+            say(output.file, "write failed")
             return _FAILED
+        except MemoryError:
+            output = Output(output.file, fault=_NO_MEMORY, status=OUT_OF_MEMORY)
         if output.fault:
             progress.clear()
-            _say(output.file, output.fault)
+            say(output.file, output.fault)
         worst = max(worst, output.status)
         progress.step()
     progress.clear()
     return worst
-
-
-def _write_lines(lines: Iterable[str]) -> None:
-    if sys.stdout is None:
-        raise OSError("standard output is closed")
-    on_terminal = sys.stdout.isatty()
-    for line in lines:
-        shown = _escaped(line[:-1]) + "\n" if on_terminal else line
-        sys.stdout.buffer.write(shown.encode())
-    sys.stdout.flush()
-
-
-def _discard_output() -> None:
-    """Lets what was not written be dropped, which Python would try to write again at its end."""
-    if sys.stdout is not None:
-        os.dup2(os.open(os.devnull, os.O_WRONLY), sys.stdout.fileno())
-
-
-def _say(file: str, fault: str) -> None:
-    name = "standard input" if file == "-" else _escaped(os.fsencode(file).decode(errors="backslashreplace"))
-    print(f"first_pass: {name}: {fault}", file=sys.stderr)
-
-
-def _escaped(text: str) -> str:
-    """A text in which no character is left that a terminal would obey, as strings of JSON have them."""
-    return _UNSAFE.sub(lambda found: f"\\u{ord(found[0]):04x}", text)
 
 
 class _Progress:
@@ -205,9 +203,9 @@ class _Progress:
             self._drawn = now
             filled = _BAR_COLUMNS * self._done // self._total
             bar = "#" * filled + "." * (_BAR_COLUMNS - filled)
-            print(f"\r[{bar}] {self._done} of {self._total} files", end="", file=sys.stderr, flush=True)
+            draw(f"\r[{bar}] {self._done} of {self._total} files")
 
     def clear(self) -> None:
         if self._shown and self._drawn:
-            print("\r\x1b[K", end="", file=sys.stderr, flush=True)
+            draw("\r\x1b[K")
             self._drawn = 0.0
