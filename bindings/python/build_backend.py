@@ -34,6 +34,11 @@ Requires-Dist: numpy; extra == "numpy"
 Description-Content-Type: text/markdown
 
 {readme}"""
+# The name of the program has a suffix, as `first_pass` is the proved command.
+ENTRY_POINTS = """\
+[console_scripts]
+first_pass_py = first_pass._command:main
+"""
 WHEEL = """\
 Wheel-Version: 1.0
 Generator: first_pass
@@ -70,6 +75,7 @@ def write_wheel(path, folder):
     files[f"first_pass/{LIBRARY}"] = library
     files[f"{info}/METADATA"] = METADATA.format(version=version, readme=(HERE / "README.md").read_text()).encode()
     files[f"{info}/WHEEL"] = WHEEL.format(tag=tag).encode()
+    files[f"{info}/entry_points.txt"] = ENTRY_POINTS.encode()
     for name in ("LICENSE", "THIRD-PARTY-LICENSES"):
         files[f"{info}/{name}"] = (TOP / name).read_bytes()
     files = dict(sorted(files.items()))

@@ -57,6 +57,11 @@ class WheelTest(unittest.TestCase):
         used = [sys.executable, "-c", code]
         ran = subprocess.run(used, env=environment(PYTHONPATH=str(room)), cwd="/", stdout=subprocess.PIPE, check=True)
         self.assertEqual(ran.stdout.decode().split(), [VERSION, str(room / "first_pass/__init__.py"), "a"])
+        script = {"env": environment(PYTHONPATH=str(room)), "stdout": subprocess.PIPE, "check": True}
+        ran = subprocess.run([room / "bin/first_pass_py", "outline"], input=b"# a\n", **script)
+        self.assertIn(b'"title":"a"', ran.stdout)
+        ran = subprocess.run([room / "bin/first_pass_py", "--help"], **script)
+        self.assertTrue(ran.stdout.startswith(b"usage: first_pass_py [-h]"), ran.stdout)
 
     def test_name_and_files(self):
         wheel = self.build("a")

@@ -1,4 +1,4 @@
-"""The command ``python3 -m first_pass``."""
+"""The command ``first_pass_py``, or ``python3 -m first_pass``."""
 
 from __future__ import annotations
 
