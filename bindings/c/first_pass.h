@@ -346,6 +346,19 @@ FIRST_PASS_API uint32_t first_pass_line_column(const char *text, size_t length, 
                                                size_t offset, struct first_pass_place *place);
 
 /**
+ * @brief How many bytes the byte order mark takes that a text begins with: 3, or 0 if there is none.
+ *
+ * first_pass_parse() takes a byte order mark for a character of the text. To leave it out, hand the bytes after it to
+ * each call. Then all offsets are counted from there.
+ *
+ * @param[in] text bytes; may be NULL if `length` is 0
+ * @param[in] length how many there are
+ */
+static inline size_t first_pass_bom_length(const char *text, size_t length) {
+    return length >= 3 && text[0] == '\xEF' && text[1] == '\xBB' && text[2] == '\xBF' ? 3 : 0;
+}
+
+/**
  * @brief Where memory comes from.
  *
  * The functions are called only in the thread of a call that was given this allocator, or a tree made with it, and

@@ -1,5 +1,5 @@
 /*
- * The lines and columns of offsets, for texts and tables that end at a page.
+ * The lines and columns of offsets, for texts and tables that end at a page, and the length of a byte order mark.
  */
 #define _GNU_SOURCE
 #include "check.h"
@@ -128,10 +128,32 @@ static void test_tree(void) {
     first_pass_tree_free(tree);
 }
 
+/* A text is parsed with its byte order mark, or from after it. */
+static void test_byte_order_mark(void) {
+    static const char text[] = "\xef\xbb\xbf# a\n";
+    size_t length = sizeof text - 1, skip = first_pass_bom_length(text, length);
+    struct first_pass_tree *tree;
+    CHECK(skip == 3 && first_pass_bom_length(text, 3) == 3);
+    for (size_t shorter = 0; shorter < 3; shorter++) {
+        CHECK(first_pass_bom_length(text, shorter) == 0);
+    }
+    CHECK(first_pass_bom_length(NULL, 0) == 0 && first_pass_bom_length(text + 3, length - 3) == 0);
+    CHECK(first_pass_bom_length("\xef\xbb\xbe", 3) == 0 && first_pass_bom_length("\xff\xfe\xbf", 3) == 0);
+    if (CHECK(first_pass_parse(text, length, 0, NULL, &tree) == FIRST_PASS_OK)) {
+        CHECK(tree->nodes[1].kind == FIRST_PASS_NODE_PARAGRAPH && tree->nodes[0].end == 7);
+        first_pass_tree_free(tree);
+    }
+    if (CHECK(first_pass_parse(text + skip, length - skip, 0, NULL, &tree) == FIRST_PASS_OK)) {
+        CHECK(tree->nodes[1].kind == FIRST_PASS_NODE_HEADING && tree->nodes[0].end == 4);
+        first_pass_tree_free(tree);
+    }
+}
+
 int main(void) {
     test_rows();
     test_empty();
     test_texts();
     test_tree();
+    test_byte_order_mark();
     return report("places");
 }

@@ -78,6 +78,18 @@ class OutlineTest(CommandTest):
         self.assertEqual(ran.stdout.count(b'"id":"b"'), 3)
 
 
+    def test_a_byte_order_mark(self):
+        name, plain = self.write("a.md", b"\xef\xbb\xbf# a\n"), self.write("b.md", b"# b\n")
+        warning = "first_pass: F/a.md: begins with a byte order mark; --strip-bom leaves it out"
+        for command in ("outline", "tree"):
+            ran = run(command, name, plain)
+            self.check(ran, 0, [warning])
+            self.assertNotIn(b'"title":"a"', ran.stdout)
+            self.check(run(command, "--strip-bom", name, plain), 0, [])
+        self.assertEqual(run("tree", name).stdout, run("tree", given="\ufeff# a\n".encode()).stdout)
+        self.assertEqual(run("tree", "--strip-bom", name).stdout, run("tree", given=b"# a\n").stdout)
+
+
 class FaultTest(CommandTest):
     def test_each_file_is_tried(self):
         good, bad = self.write("a.md", b"# a\n"), self.write("bad.md", b"ab\xff")

@@ -103,6 +103,27 @@ class TextTest(unittest.TestCase):
                 Options.from_names(names)
 
 
+class ByteOrderMarkTest(unittest.TestCase):
+    def test_it_is_a_character_of_the_text(self):
+        self.assertEqual([node.kind for node in parse("\ufeff# a")], ["Root", "Paragraph", "Text"])
+        self.assertEqual(parse("\ufeff# a").source, b"\xef\xbb\xbf# a")
+
+    def test_it_is_left_out(self):
+        for text in ("\ufeff# a", b"\xef\xbb\xbf# a", bytearray(b"\xef\xbb\xbf# a"), "# a", b"# a"):
+            self.assertEqual(parse(text, strip_bom=True), parse("# a"))
+            self.assertEqual(first_pass.outline(text, strip_bom=True), first_pass.outline("# a"))
+            self.assertEqual(list(first_pass.parse_many([text], strip_bom=True)), [parse("# a")])
+        mark = "\ufeff".encode()
+        for text, source in (("", b""), ("\ufeff", b""), ("\ufeff\ufeff", mark), ("a\ufeff", b"a" + mark)):
+            self.assertEqual(parse(text, strip_bom=True).source, source)
+
+    def test_offsets_are_counted_from_after_it(self):
+        heading = parse("\ufeff# a", strip_bom=True).outline()[0]
+        self.assertEqual((heading.start, heading.end), (0, 3))
+        with self.assertRaisesRegex(MarkdownError, "^not UTF-8: byte 1$"):
+            parse(b"\xef\xbb\xbfa\xff", strip_bom=True)
+
+
 class ErrorTest(unittest.TestCase):
     def check(self, error, message, status):
         self.assertEqual((str(error), error.status), (message, status))

@@ -30,6 +30,23 @@ pub fn parse(text: &str, options: Options) -> Result<Document<'_>, Error> {
     Ok(Document { text, records })
 }
 
+/// The text without the byte order mark that it may begin with, for [`parse`] and [`Parser::parse_with`].
+///
+/// These take the mark for a character of the text. Without it, offsets are counted from after it.
+///
+/// ```
+/// use first_pass::{Options, strip_bom};
+///
+/// let document = first_pass::parse(strip_bom("\u{feff}# One\n"), Options::COMMONMARK)?;
+/// assert_eq!(document.text(), "# One\n");
+/// assert_eq!(document.tree().outline().next().unwrap().range(), 0..6);
+/// # Ok::<(), first_pass::Error>(())
+/// ```
+#[must_use]
+pub fn strip_bom(text: &str) -> &str {
+    text.strip_prefix('\u{feff}').unwrap_or(text)
+}
+
 /// A text with its tree and tables. Threads may share it.
 #[derive(Clone)]
 pub struct Document<'t> {

@@ -26,7 +26,8 @@
 //!
 //! Ranges are offsets in bytes, on character boundaries, so `&text[node.range()]` never panics. Siblings don't
 //! overlap, and a node lies within its parent. There is one exception: the [`Body::TaskListMarker`] of an item comes
-//! before the paragraph or heading that holds it. A byte order mark and NUL are bytes of the text like any others.
+//! before the paragraph or heading that holds it. NUL is a byte of the text like any other. So is a byte order mark,
+//! unless [`strip_bom`] leaves it out.
 //!
 //! # The linked library
 //!
@@ -41,7 +42,7 @@
 pub use attributes::{Alignment, Alignments, Attribute, Attributes};
 pub use body::{BlockQuoteKind, Body, MetadataBlockKind};
 pub use definitions::{Definition, Definitions};
-pub use document::{Document, Parser, parse};
+pub use document::{Document, Parser, parse, strip_bom};
 pub use error::Error;
 pub use events::{Event, OffsetIter};
 pub use options::Options;

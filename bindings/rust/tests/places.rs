@@ -1,6 +1,6 @@
-//! The lines and columns of offsets.
+//! The lines and columns of offsets, and byte order marks.
 
-use first_pass::{Error, LineIndex, Place};
+use first_pass::{Error, LineIndex, Options, Place, parse, strip_bom};
 
 /// The line and the two columns of a place.
 fn numbers(place: Place) -> (usize, usize, usize) {
@@ -63,5 +63,24 @@ fn each_offset() -> Result<(), Error> {
         }
         assert_eq!(index.line_column(text.len() + 1), None);
     }
+    Ok(())
+}
+
+#[test]
+fn byte_order_marks() -> Result<(), Error> {
+    let text = "\u{feff}# a\n";
+    let kinds = |text| -> Result<Vec<_>, Error> {
+        Ok(parse(text, Options::COMMONMARK)?
+            .tree()
+            .nodes()
+            .map(|node| node.body().name())
+            .collect())
+    };
+    assert_eq!(kinds(text)?, ["Root", "Paragraph", "Text"]);
+    assert_eq!(kinds(strip_bom(text))?, ["Root", "Heading", "Text"]);
+    for (text, wanted) in [("", ""), ("\u{feff}", ""), ("\u{feff}\u{feff}a", "\u{feff}a")] {
+        assert_eq!(strip_bom(text), wanted);
+    }
+    assert_eq!(strip_bom("a\u{feff}"), "a\u{feff}");
     Ok(())
 }

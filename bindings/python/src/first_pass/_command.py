@@ -3,6 +3,7 @@
 from __future__ import annotations
 
 import argparse
+import codecs
 import os
 import signal
 import sys
@@ -30,12 +31,13 @@ Status: 0; 1 if memory ran out; 2 for a wrong word, a file that can't be read, a
 write. With several files each is tried, and the status is the highest."""
 _FAILED = 2
 _NO_MEMORY = "out of memory"
+_MARKED = "begins with a byte order mark; --strip-bom leaves it out"
 _BAR_COLUMNS = 30
 _BAR_SECONDS = 0.1
 
 
 class Output(NamedTuple):
-    """What came of a file: lines, or a fault with its status."""
+    """What came of a file: lines, or a fault with its status. Beside lines a fault of status 0 is a warning."""
 
     file: str
     lines: Iterable[str] = ()
@@ -58,12 +60,13 @@ def main(words: Sequence[str] | None = None) -> int:
 
 def _run(arguments: argparse.Namespace) -> int:
     files = arguments.files or ["-"]
+    output = partial(_output, options=arguments.options, strip_bom=arguments.strip_bom)
     if arguments.command == "outline":
-        made = partial(_output, lines_of=_outline_line, options=arguments.options)
+        made = partial(output, lines_of=_outline_line)
         outputs = in_order(made, files, arguments.threads or processors())
     else:
         lines_of = _tree_lines if len(files) == 1 else _named_tree_lines
-        outputs = map(partial(_output, lines_of=lines_of, options=arguments.options), files)
+        outputs = map(partial(output, lines_of=lines_of), files)
     return _write_all(outputs, len(files))
 
 
@@ -81,6 +84,8 @@ def _read_words(words: Sequence[str] | None) -> argparse.Namespace:
     parser.add_argument("files", nargs="*", metavar="FILE")
     names = "the extensions to read: names or sets (commonmark, github, docs, all) with commas between them, or a value"
     parser.add_argument("-o", "--options", type=_options, action=_Union, default=0, metavar="NAMES", help=names)
+    mark = "leave out a byte order mark at the start of a text, and count offsets from after it"
+    parser.add_argument("--strip-bom", action="store_true", help=mark)
     parser.add_argument("--threads", type=_positive, metavar="N", help="read N files at a time (outline)")
     arguments = parser.parse_intermixed_args(words)
     if arguments.threads and arguments.command != "outline":
@@ -120,11 +125,13 @@ def _positive(word: str) -> int:
     return int(word)
 
 
-def _output(file: str, lines_of: Callable[[str, Document], Iterable[str]], options: int) -> Output:
+def _output(file: str, lines_of: Callable[[str, Document], Iterable[str]], options: int, strip_bom: bool) -> Output:
     """Reads a file. What is wrong with it is reported as the command ``first_pass`` reports it."""
     try:
         file.encode()
-        return Output(file, lines_of(file, parse(_bytes_of(file), options)))
+        source = _bytes_of(file)
+        warning = _MARKED if source.startswith(codecs.BOM_UTF8) and not strip_bom else ""
+        return Output(file, lines_of(file, parse(source, options, strip_bom=strip_bom)), warning)
     except UnicodeEncodeError:
         return Output(file, fault="the name is not UTF-8, so JSON can't have it", status=_FAILED)
     except MarkdownError as error:

@@ -27,6 +27,7 @@ def parse_many(
     *,
     threads: int | None = ...,
     chunk_bytes: int = ...,
+    strip_bom: bool = ...,
     on_error: Literal["raise"] = ...,
 ) -> Iterator[Document]:
     ...
@@ -39,6 +40,7 @@ def parse_many(
     *,
     threads: int | None = ...,
     chunk_bytes: int = ...,
+    strip_bom: bool = ...,
     on_error: Literal["yield"],
 ) -> Iterator[Result]:
     ...
@@ -50,6 +52,7 @@ def parse_many(
     *,
     threads: int | None = None,
     chunk_bytes: int = 1 << 18,
+    strip_bom: bool = False,
     on_error: Literal["raise", "yield"] = "raise",
 ) -> Iterator[Result]:
     """Parses texts in threads, and yields their documents in the same order.
@@ -57,6 +60,7 @@ def parse_many(
     A thread takes texts in chunks of about ``chunk_bytes``. Two chunks for each thread are taken ahead, so memory
     stays bounded. Without ``threads`` there are as many as processors; with one, the caller's thread parses. A text
     that can be changed, such as a ``bytearray``, is copied when it is taken. So it can be filled again for the next.
+    With ``strip_bom`` a byte order mark at the start of a text is left out, as `parse` does.
 
     If a text can't be parsed, its exception says its place: ``text 3: not UTF-8: byte 17``. A `MarkdownError` has the
     place as its ``index``. With ``on_error="raise"`` the documents before it are yielded first, and then it is raised.
@@ -69,7 +73,7 @@ def parse_many(
         raise ValueError("threads and chunk_bytes have to be at least 1")
     if on_error not in ("raise", "yield"):
         raise ValueError(f"on_error is raise or yield, and not {on_error}")
-    parse_text = partial(parse, options=options)
+    parse_text = partial(parse, options=options, strip_bom=strip_bom)
     parse_text("")
     chunks = _Chunks(texts, chunk_bytes)
     return _results(in_order(partial(_parse_chunk, parse_text), chunks, count), chunks, on_error)

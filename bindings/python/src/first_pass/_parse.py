@@ -2,6 +2,7 @@
 
 from __future__ import annotations
 
+import codecs
 import operator
 from typing import Union
 
@@ -16,8 +17,11 @@ Text = Union[str, bytes, bytearray, memoryview]
 _OPTION_LIMIT = 1 << 32
 
 
-def parse(text: Text, options: int = Options.COMMONMARK) -> Document:
+def parse(text: Text, options: int = Options.COMMONMARK, *, strip_bom: bool = False) -> Document:
     """Parses a Markdown text: a string, or its bytes in UTF-8.
+
+    A byte order mark at the start is a character of the text. With ``strip_bom`` it is left out: the source of the
+    document begins after it, and all offsets are counted from there.
 
     Other threads of the interpreter run meanwhile. `MarkdownError` says what is wrong with the text or the options.
     ``MemoryError`` says that memory ran out.
@@ -25,12 +29,13 @@ def parse(text: Text, options: int = Options.COMMONMARK) -> Document:
     bits = operator.index(options)
     if not 0 <= bits < _OPTION_LIMIT:
         raise MarkdownError(f"bad options: {int(bits)}", BAD_OPTIONS)
-    return read_document(text if type(text) is bytes else _encoded(text), bits)
+    source = text if type(text) is bytes else _encoded(text)
+    return read_document(source.removeprefix(codecs.BOM_UTF8) if strip_bom else source, bits)
 
 
-def outline(text: Text, options: int = Options.COMMONMARK) -> list[Heading]:
+def outline(text: Text, options: int = Options.COMMONMARK, *, strip_bom: bool = False) -> list[Heading]:
     """The headings of a text, in reading order."""
-    return parse(text, options).outline()
+    return parse(text, options, strip_bom=strip_bom).outline()
 
 
 def unchanging(text: Text) -> Text:
