@@ -97,7 +97,7 @@ class FaultTest(CommandTest):
         faults = [
             "first_pass: F/none.md: no such file",
             "first_pass: F: is a folder",
-            "first_pass: F/bad.md: not UTF-8: byte 2",
+            "first_pass: F/bad.md: not UTF-8: byte 2, line 1, column 3",
         ]
         for command in ("outline", "tree"):
             ran = run(command, *names)
@@ -106,7 +106,13 @@ class FaultTest(CommandTest):
         self.assertEqual(len(run("outline", *names).stdout.splitlines()), 2)
 
     def test_standard_input_that_is_not_utf8(self):
-        self.check(run("outline", given=b"\x80"), 2, ["first_pass: standard input: not UTF-8: byte 0"])
+        for text, words, place in (
+            (b"\x80", (), "byte 0, line 1, column 1"),
+            (b"a\r\n\xc3\xa9\xf0\x9f\x98\x80\xff", (), "byte 9, line 2, column 4"),
+            (b"\xef\xbb\xbf\xff", ("--strip-bom",), "byte 0, line 1, column 1"),
+        ):
+            fault = f"first_pass: standard input: not UTF-8: {place}"
+            self.check(run("outline", *words, given=text), 2, [fault])
 
     def test_names_of_files(self):
         name = os.fsencode(self.folder) + b"/\xff.md"
@@ -242,7 +248,7 @@ class TerminalTest(CommandTest):
     def test_a_fault_stands_on_a_line_of_its_own(self):
         names = [self.write(f"{number}.md", b"# a\n" * 2000) for number in range(50)]
         sent = self.on_terminal(["outline", *names, self.write("bad.md", b"\xff")], ["stderr"])
-        self.assertRegex(sent, r"\r\x1b\[Kfirst_pass: [^\r\n]*bad.md: not UTF-8: byte 0\r\n")
+        self.assertRegex(sent, r"\r\x1b\[Kfirst_pass: [^\r\n]*bad.md: not UTF-8: byte 0, line 1, column 1\r\n")
 
     def test_nothing_that_a_terminal_would_obey_is_sent(self):
         name = self.write("a.md", "# a\x9b\u202eb\u0007\n".encode())

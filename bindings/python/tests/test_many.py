@@ -105,6 +105,7 @@ class ManyTest(unittest.TestCase):
             }
             self.assertEqual({place: str(found[place]) for place in messages}, messages)
             self.assertEqual([found[place].index for place in (300, 302, 603)], [300, 302, 603])
+            self.assertEqual([found[place].offset for place in (300, 302, 603)], [0, None, 1])
             self.assertEqual(len(found), 604)
 
     def test_what_the_iterable_raises(self):

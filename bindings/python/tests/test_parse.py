@@ -136,6 +136,7 @@ class ErrorTest(unittest.TestCase):
             with self.assertRaises(MarkdownError) as caught:
                 parse(source)
             self.check(caught.exception, f"not UTF-8: byte {offset}", 2)
+            self.assertEqual(pickle.loads(pickle.dumps(caught.exception)).offset, offset)
 
     def test_lone_surrogates(self):
         for text, place in (("\ud800", 0), ("a\u00e9\udc80b", 2)):

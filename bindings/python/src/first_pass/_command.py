@@ -15,6 +15,7 @@ from typing import IO, Any, Callable, NamedTuple, NoReturn
 from . import __version__
 from ._document import Document
 from ._errors import OUT_OF_MEMORY, MarkdownError
+from ._library import LineIndex
 from ._lines import json_line, json_lines
 from ._options import Options
 from ._order import in_order, processors
@@ -127,15 +128,19 @@ def _positive(word: str) -> int:
 
 def _output(file: str, lines_of: Callable[[str, Document], Iterable[str]], options: int, strip_bom: bool) -> Output:
     """Reads a file. What is wrong with it is reported as the command ``first_pass`` reports it."""
+    source, warning = b"", ""
     try:
         file.encode()
         source = _bytes_of(file)
-        warning = _MARKED if source.startswith(codecs.BOM_UTF8) and not strip_bom else ""
-        return Output(file, lines_of(file, parse(source, options, strip_bom=strip_bom)), warning)
+        if strip_bom:
+            source = source.removeprefix(codecs.BOM_UTF8)
+        elif source.startswith(codecs.BOM_UTF8):
+            warning = _MARKED
+        return Output(file, lines_of(file, parse(source, options)), warning)
     except UnicodeEncodeError:
         return Output(file, fault="the name is not UTF-8, so JSON can't have it", status=_FAILED)
     except MarkdownError as error:
-        return Output(file, fault=str(error), status=_FAILED)
+        return Output(file, fault=_fault_of(error, source), status=_FAILED)
     except MemoryError:
         return Output(file, fault=_NO_MEMORY, status=OUT_OF_MEMORY)
     except FileNotFoundError:
@@ -144,6 +149,14 @@ def _output(file: str, lines_of: Callable[[str, Document], Iterable[str]], optio
         return Output(file, fault="is a folder", status=_FAILED)
     except OSError as error:
         return Output(file, fault=f"can't be read: {(error.strerror or str(error)).lower()}", status=_FAILED)
+
+
+def _fault_of(error: MarkdownError, source: bytes) -> str:
+    """What is wrong with a text. An offset has its line and its column too, as editors count."""
+    if error.offset is None:
+        return str(error)
+    line, _column, utf16_column = LineIndex(source).place(error.offset)
+    return f"{error}, line {line}, column {utf16_column}"
 
 
 def _bytes_of(file: str) -> bytes:

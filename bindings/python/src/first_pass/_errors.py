@@ -10,15 +10,17 @@ OK, OUT_OF_MEMORY, NOT_UTF8, BAD_OPTIONS, TOO_SMALL, TOO_LONG = range(6)
 class MarkdownError(ValueError):
     """A text that isn't UTF-8 or is too long, or options that don't exist."""
 
-    def __init__(self, message: str, status: int, index: int | None = None) -> None:
+    def __init__(self, message: str, status: int, index: int | None = None, offset: int | None = None) -> None:
         super().__init__(message)
         self.status = status
         """The status of the C library: 2 not UTF-8, 3 bad options, 5 too long."""
         self.index = index
         """The place of the text among those of `parse_many`."""
+        self.offset = offset
+        """The offset of the first byte that isn't UTF-8."""
 
     def __reduce__(self) -> tuple[Any, ...]:
-        return MarkdownError, (str(self), self.status, self.index)
+        return MarkdownError, (str(self), self.status, self.index, self.offset)
 
 
 def fault_of(status: int, source: bytes, options: int) -> Exception:
@@ -26,7 +28,7 @@ def fault_of(status: int, source: bytes, options: int) -> Exception:
     if status == OUT_OF_MEMORY:
         return MemoryError("out of memory")
     if status == NOT_UTF8:
-        return MarkdownError(_not_utf8(source), status)
+        return _not_utf8(source)
     if status == BAD_OPTIONS:
         return MarkdownError(f"bad options: {options}", status)
     if status == TOO_LONG:
@@ -34,10 +36,10 @@ def fault_of(status: int, source: bytes, options: int) -> Exception:
     return MarkdownError(f"unknown status {status}", status)
 
 
-def _not_utf8(source: bytes) -> str:
-    """The message for bytes that are not UTF-8, with the offset of the first wrong byte."""
+def _not_utf8(source: bytes) -> MarkdownError:
+    """The error of bytes that are not UTF-8, with the offset of the first wrong byte."""
     try:
         source.decode()
     except UnicodeDecodeError as error:
-        return f"not UTF-8: byte {error.start}"
-    return "not UTF-8"
+        return MarkdownError(f"not UTF-8: byte {error.start}", NOT_UTF8, offset=error.start)
+    return MarkdownError("not UTF-8", NOT_UTF8)

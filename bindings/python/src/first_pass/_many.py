@@ -134,7 +134,7 @@ def _placed(error: Exception, index: int) -> Exception:
     """An exception that says which text it is of."""
     message = f"text {index}: {error}"
     if isinstance(error, MarkdownError):
-        return MarkdownError(message, error.status, index)
+        return MarkdownError(message, error.status, index, error.offset)
     if isinstance(error, (MemoryError, TypeError)):
         return type(error)(message)
     return error
