@@ -1,5 +1,6 @@
 """The lines of JSON that come of documents, against the table of trees and the program `tree`."""
 
+import itertools
 import subprocess
 import sys
 import unittest
@@ -38,6 +39,30 @@ def run_tree(inputs):
         return list(pool.map(lines_of, inputs))
 
 
+def parts_of_title(source, tokens):
+    """The text of the tokens of a heading, and of what stands between them in a line. A break is a space."""
+    end = None
+    for token in tokens:
+        if token["kind"] in ("SoftBreak", "HardBreak"):
+            yield b" "
+            end = None
+            continue
+        # (a backslash that was dropped comes back)
+        dropped = end is None and token["kind"] in ("Text", "MaybeCode") and token["escaped"]
+        start = token["start"] - dropped if end is None else min(end, token["start"])
+        yield source[start : token["end"]]
+        end = max(start, token["end"])
+
+
+def headings_of(source, nodes):
+    """The headings of a tree, made from the members of its nodes."""
+    for at, node in enumerate(nodes):
+        if node["kind"] == "Heading":
+            tokens = itertools.takewhile(lambda inner: inner["depth"] > node["depth"], nodes[at + 1 :])
+            title = b"".join(parts_of_title(source, tokens)).strip(b" \t").decode()
+            yield first_pass.Heading(node["level"], node["start"], node["end"], node["id"], title)
+
+
 class LinesTest(unittest.TestCase):
     maxDiff = None
 
@@ -57,16 +82,11 @@ class LinesTest(unittest.TestCase):
             self.assertIsNone(wrong(lines.decode(), case[2]), case)
 
     def test_outlines(self):
-        """The outline of each text has the headings that the command `toc` writes."""
-        headings_of = texts.load_script("tools/toc").headings_of
+        """The outline of each text has the headings that its nodes say."""
         for options, text in [case[:2] for case in texts.cases()] + list(texts.random_texts(RANDOM_TEXTS)):
             document = first_pass.parse(text, options)
-            wanted = headings_of(text, [node.members() for node in document])
-            found = [
-                {"level": level, "text": title, "id": id, "start": start, "end": end, "children": []}
-                for level, start, end, id, title in document.outline()
-            ]
-            self.assertEqual(found, wanted, text)
+            wanted = list(headings_of(text, [node.members() for node in document]))
+            self.assertEqual(document.outline(), wanted, text)
 
     @unittest.skipUnless(texts.tree_program(), "the program tree is not built: FIRST_PASS_TREE names it")
     def test_table_against_tree(self):

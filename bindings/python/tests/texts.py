@@ -43,7 +43,7 @@ MOST_PARTS = 50
 
 def load_script(path):
     """A script of the repository as a module. `.ci/json-test` reads the table, and knows which lines are wanted for a
-    printed tree; `tools/toc` knows the headings of a tree."""
+    printed tree."""
     loader = importlib.machinery.SourceFileLoader(Path(path).name.replace("-", "_"), str(TOP / path))
     spec = importlib.util.spec_from_loader(loader.name, loader)
     module = importlib.util.module_from_spec(spec)
