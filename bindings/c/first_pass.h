@@ -323,7 +323,7 @@ FIRST_PASS_API size_t first_pass_place_count(size_t length);
  *
  * The table has the places of offsets at equal distances.
  *
- * @param[in] text bytes of UTF-8; may be NULL if `length` is 0
+ * @param[in] text bytes of UTF-8; not NULL, also if `length` is 0
  * @param[in] length how many there are
  * @param[out] places an array for first_pass_place_count(length) places
  */
@@ -335,7 +335,7 @@ FIRST_PASS_API void first_pass_places(const char *text, size_t length, struct fi
  * It reads less than 256 bytes, however long a line is. The offset between a carriage return and its newline is in the
  * line that they end. An offset within a character has the UTF-16 column of the character's end.
  *
- * @param[in] text the text that the table was filled for; may be NULL if `length` is 0
+ * @param[in] text the text that the table was filled for; not NULL, also if `length` is 0
  * @param[in] length how many bytes it has
  * @param[in] places its table
  * @param[in] offset in bytes; `length` is that of the end of the text

@@ -69,15 +69,6 @@ static void test_rows(void) {
     }
 }
 
-/* A text without bytes may be NULL. */
-static void test_empty(void) {
-    struct first_pass_place places[1], place;
-    first_pass_places(NULL, 0, places);
-    CHECK(first_pass_line_column(NULL, 0, places, 0, &place) == 1);
-    CHECK(place.line == 1 && place.column == 1 && place.utf16_column == 1);
-    CHECK(first_pass_line_column(NULL, 0, places, 1, &place) == 0);
-}
-
 /* Texts of pieces that come in an order that looks random: short and long lines, with each line ending. */
 static void test_texts(void) {
     static const char *const pieces[] = {"\n",  "\r",       "\r\n",         "a",
@@ -151,7 +142,7 @@ static void test_byte_order_mark(void) {
 
 int main(void) {
     test_rows();
-    test_empty();
+    check_text("", 0);
     test_texts();
     test_tree();
     test_byte_order_mark();
