@@ -18,8 +18,7 @@
  * may be freed as soon as the call returns. first_pass_places() and first_pass_line_column() give the line and the
  * column of an offset.
  *
- * first_pass_read(), first_pass_fold() and first_pass_name_range() are proved. The other calls are C over these, and
- * are tested.
+ * first_pass_read(), first_pass_fold() and first_pass_name_range() are proved. The other calls are C, and are tested.
  *
  * No call prints, ends the process or keeps state. Any number of calls may run at the same time, and a tree may be
  * read in any number of threads. A call may not be made from a signal handler.
