@@ -128,14 +128,13 @@ def _positive(word: str) -> int:
 
 def _output(file: str, lines_of: Callable[[str, Document], Iterable[str]], options: int, strip_bom: bool) -> Output:
     """Reads a file. What is wrong with it is reported as the command ``first_pass`` reports it."""
-    source, warning = b"", ""
+    source = b""
     try:
         file.encode()
         source = _bytes_of(file)
         if strip_bom:
             source = source.removeprefix(codecs.BOM_UTF8)
-        elif source.startswith(codecs.BOM_UTF8):
-            warning = _MARKED
+        warning = _MARKED if source.startswith(codecs.BOM_UTF8) else ""
         return Output(file, lines_of(file, parse(source, options)), warning)
     except UnicodeEncodeError:
         return Output(file, fault="the name is not UTF-8, so JSON can't have it", status=_FAILED)
