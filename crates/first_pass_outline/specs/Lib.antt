@@ -1,4 +1,9 @@
+pub mod ContentsLines
+pub mod ContentsViews
 pub mod Entries
+pub mod EntryTexts
 pub mod Lines
+pub mod Nesting
 pub mod Outline
 pub mod TextOutline
+pub mod Titles

@@ -64,7 +64,7 @@ pub fn outline_text<'a>(
 }
 
 // The entry of a node, if it is a heading.
-fn entry_of<'a>(item: Item, allocs: &Allocations<'a>) -> Option<OutlineEntry<'a>>
+pub(crate) fn entry_of<'a>(item: Item, allocs: &Allocations<'a>) -> Option<OutlineEntry<'a>>
     ensures { option_map entry_in result ≡ entry_of (read (names_of allocs.now) item) }
 {
     match item.body {

@@ -1,6 +1,7 @@
 //! The tests, by what they call.
 
 mod bench;
+mod contents;
 mod fakes;
 mod faults;
 mod links;

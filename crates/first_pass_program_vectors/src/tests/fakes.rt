@@ -119,8 +119,8 @@ impl Write for FailingWriter {
     }
 }
 
-// The words in the form that a program receives.
-fn words_of(alloc: Global, words: &[&str]) -> Result<Vec<String>, AllocError> {
+/// Returns words in the form that a program receives.
+pub fn words_of(alloc: Global, words: &[&str]) -> Result<Vec<String>, AllocError> {
     let mut list = Vec::new(alloc);
     for word in words {
         list.push(String::from_str(alloc, word)?)?;
