@@ -9,6 +9,7 @@ use first_pass_tree::forest::Tree;
 use std::alloc::{AllocError, Global};
 
 /// The parser whose call is `run_first_pass`.
+#[derive(Drop)]
 pub struct BlockParser;
 
 impl Parse for BlockParser {

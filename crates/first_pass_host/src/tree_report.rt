@@ -37,6 +37,7 @@ pub trait TreeLines {
 }
 
 /// The report with these lines of the tree that a parser returns. It is proved for every parser.
+#[derive(Drop)]
 pub struct TreeReport<P, L>(pub P, pub L);
 
 impl<P: Parse, L: TreeLines> Report for TreeReport<P, L> {
