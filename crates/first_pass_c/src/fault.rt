@@ -4,7 +4,7 @@ ghost use Rattle.first_pass_c.specs.declared.fault.Fault.TheVariants.{OutOfMemor
 ghost use Rattle.first_pass_c.specs.Statuses.{status_of};
 ghost use Rattle.std.specs.Prelude.{◌≡◌};
 
-use crate::flat::fault::TooLong;
+use crate::flat::numbers::TooLong;
 use std::alloc::AllocError;
 
 /// The reason for which a call fails.

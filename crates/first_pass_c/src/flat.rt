@@ -3,10 +3,10 @@
 
 pub mod attributes;
 pub mod definitions;
-pub mod fault;
 pub mod kinds;
 pub mod laws;
 pub mod names;
 pub mod nodes;
+pub mod numbers;
 pub mod records;
 pub mod side;

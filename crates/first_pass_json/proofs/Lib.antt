@@ -1,2 +1,10 @@
 pub mod Arrays
+pub mod HtmlTexts
+pub mod PageParts
 pub mod Plain
+pub mod RangeTexts
+pub mod ScriptLexemes
+pub mod ScriptStrings
+pub mod ScriptValues
+pub mod ScriptWords
+pub mod Scripts

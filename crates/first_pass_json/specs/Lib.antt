@@ -1,3 +1,7 @@
 pub mod JsonLines
 pub mod JsonValues
 pub mod Members
+pub mod Page
+pub mod PlacedRanges
+pub mod ReferenceLines
+pub mod Scripts

@@ -7,7 +7,7 @@ ghost use Rattle.first_pass_names.specs.TableEntries.{link_entry};
 ghost use Rattle.std.specs.Option.{option_map};
 ghost use Rattle.std.specs.Prelude.{◌≡◌, ◌++◌, OnOk, codes};
 
-use crate::node::append_range;
+use crate::range::RangeForm;
 use crate::values::{append_string, append_string_after};
 use first_pass_items::cow_str::CowStr;
 use first_pass_names::items::{LabelKey, LinkDef};
@@ -15,18 +15,19 @@ use std::alloc::AllocError;
 use std::ops::DerefStr;
 
 /// Appends the line of a link definition: its label as it is spelled, its destination, its title or `null`, and its
-/// range (CommonMark 4.7). Fails only if an allocation fails.
-pub fn append_definition(
+/// range in a form of ranges (CommonMark 4.7). Fails only if an allocation fails.
+pub fn append_definition<R: RangeForm>(
     line: &mut Vec<u8>,
+    form: &R,
     label: &LabelKey<'_>,
     definition: &LinkDef<'_>,
 ) -> Result<(), AllocError>
     ensures { OnOk result (line.new.items
-        ≡ line.old.items ++ definition_line (link_entry (label.now, definition.now))) }
+        ≡ line.old.items ++ definition_line (R.members form.now) (link_entry (label.now, definition.now))) }
 {
     line.push(b'{')?;
     append_link(line, label, definition)?;
-    append_range(line, definition.span.start, definition.span.end)?;
+    form.append_range(line, definition.span.start, definition.span.end)?;
     line.extend_from_slice(b"}\n")
 }
 

@@ -1,6 +1,6 @@
 //! The line of a node.
 
-ghost use Rattle.first_pass_json.specs.JsonLines.{node_line, node_members, range_members};
+ghost use Rattle.first_pass_json.specs.JsonLines.{node_line, node_members};
 ghost use Rattle.first_pass_json.specs.JsonValues.{boolean, word};
 ghost use Rattle.first_pass_json.specs.Members.{block_members, character_of, is_tight, quote_or_null};
 ghost use Rattle.first_pass_names.specs.TableEntries.{names_of};
@@ -8,6 +8,7 @@ ghost use Rattle.first_pass_reports.specs.Printed.{metadata_name};
 ghost use Rattle.std.specs.Prelude.{◌≡◌, ◌++◌, OnOk, codes, decimal};
 
 use crate::heading::append_heading;
+use crate::range::RangeForm;
 use crate::table::append_alignments;
 use crate::token::append_token;
 use crate::values::{
@@ -19,39 +20,37 @@ use first_pass_names::items::Allocations;
 use first_pass_reports::printed::node::{attributes_at, body_name, metadata_name, quote_name};
 use std::alloc::AllocError;
 
-/// Appends the line of a node: its kind, its depth, its range, and the members of its kind.
-pub fn append_node(
+/// Appends the line of a node: its kind, its depth, its range in a form of ranges, and the members of its kind.
+pub fn append_node<R: RangeForm>(
     line: &mut Vec<u8>,
+    form: &R,
     depth: usize,
     item: Item,
     allocs: &Allocations<'_>,
 ) -> Result<(), AllocError>
-    ensures { OnOk result (line.new.items ≡ line.old.items ++ node_line (names_of allocs.now) (depth, item)) }
+    ensures { OnOk result (line.new.items
+        ≡ line.old.items ++ node_line (R.members form.now) (names_of allocs.now) (depth, item)) }
 {
     line.push(b'{')?;
-    append_common(line, depth, item)?;
+    append_common(line, form, depth, item)?;
     append_block(line, item.body, allocs)?;
     append_token(line, item.body, allocs)?;
     line.extend_from_slice(b"}\n")
 }
 
 // Appends the members that every node has: its kind, its depth and its range.
-fn append_common(line: &mut Vec<u8>, depth: usize, item: Item) -> Result<(), AllocError>
-    ensures { OnOk result (line.new.items ≡ line.old.items ++ node_members (depth, item)) }
+fn append_common<R: RangeForm>(
+    line: &mut Vec<u8>,
+    form: &R,
+    depth: usize,
+    item: Item,
+) -> Result<(), AllocError>
+    ensures { OnOk result (line.new.items ≡ line.old.items ++ node_members (R.members form.now) (depth, item)) }
 {
     line.extend_from_slice(b"\"kind\":")?;
     append_word(line, body_name(item.body))?;
     append_number_after(line, b",\"depth\":", depth)?;
-    append_range(line, item.start, item.end)
-}
-
-/// Appends the start and the end of a range.
-#[tactic(auto, unfolding(crate::specs::JsonLines::range_members))]
-pub fn append_range(line: &mut Vec<u8>, start: usize, end: usize) -> Result<(), AllocError>
-    ensures { OnOk result (line.new.items ≡ line.old.items ++ range_members start end) }
-{
-    append_number_after(line, b",\"start\":", start)?;
-    append_number_after(line, b",\"end\":", end)
+    form.append_range(line, item.start, item.end)
 }
 
 // Appends the members of a block, if it has any.

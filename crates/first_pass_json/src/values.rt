@@ -2,8 +2,10 @@
 
 ghost use Rattle.first_pass_json.specs.JsonValues.{boolean, json_string, text_or_null, word};
 ghost use Rattle.first_pass_json.specs.Members.{character_of};
+ghost use Rattle.json.specs.Print.{escape_byte};
+ghost use Rattle.std.specs.Char.{digit_char};
 ghost use Rattle.std.specs.Option.{option_map};
-ghost use Rattle.std.specs.Prelude.{◌≡◌, ◌++◌, OnOk, encode_utf8};
+ghost use Rattle.std.specs.Prelude.{◌≡◌, ◌<◌, ◌++◌, OnOk, encode_utf8};
 
 use first_pass_reports::printed::node::{append_number, flag_name};
 use itoa::Integer;
@@ -86,4 +88,41 @@ pub fn append_string_after(line: &mut Vec<u8>, name: &[u8], text: &str) -> Resul
 {
     line.extend_from_slice(name)?;
     append_string(line, text)
+}
+
+/// Appends a byte of a string of JSON, or its escape if it has one. Fails only if an allocation fails.
+#[tactic(auto, unfolding(json::specs::Print::escape_byte))]
+pub fn append_escape(held: &mut Vec<u8>, byte: u8) -> Result<(), AllocError>
+    ensures { OnOk result (held.new.items ≡ held.old.items ++ escape_byte byte) }
+{
+    match byte {
+        b'"' => held.extend_from_slice(b"\\\""),
+        b'\\' => held.extend_from_slice(b"\\\\"),
+        8 => held.extend_from_slice(b"\\b"),
+        12 => held.extend_from_slice(b"\\f"),
+        b'\n' => held.extend_from_slice(b"\\n"),
+        b'\r' => held.extend_from_slice(b"\\r"),
+        b'\t' => held.extend_from_slice(b"\\t"),
+        0..=31 => held.extend_from_slice(&[
+            b'\\',
+            b'u',
+            b'0',
+            b'0',
+            hex_digit(byte / 16),
+            hex_digit(byte % 16),
+        ]),
+        _ => held.extend_from_slice(&[byte]),
+    }
+}
+
+// The digit of a number in base 16, in lower case. The number is below 16.
+fn hex_digit(number: u8) -> u8
+    requires { number < 16 }
+    ensures { result ≡ digit_char number }
+{
+    if number < 10 {
+        b'0' + number
+    } else {
+        b'a' + (number - 10)
+    }
 }

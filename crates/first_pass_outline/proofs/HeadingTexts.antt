@@ -1,85 +1,65 @@
--- The text of a heading, built line by line.
-use Rattle.std.proofs.Common.{◌≡◌, ℕ, suc, ◌+◌, ◌-◌, ◌<◌, ◌≤◌, Bool, true, false, cond, List, [], ◌∷◌, ◌++◌, length, take, drop, get_or, refl, sym, ap, ◌∙◌, arith}
-use Rattle.std.proofs.Common.{append_assoc, append-nil, take_all, flat_map, drop-drop, length-drop}
-use Rattle.std.specs.List.{join_by, slice_split, onto_first, position_or_len}
-use Rattle.std.proofs.lemmas.List.Splits.{slice_split_none, slice_split_first}
-use Rattle.std.proofs.lemmas.List.Sums.{fails_before_first}
+-- The text that tokens of a heading span: built token by token, and on one line.
+use Rattle.std.proofs.Common.{◌≡◌, ℕ, Bool, true, false, cond, List, [], ◌∷◌, ◌++◌, length, drop, not, refl, sym, ap, ◌∙◌, append_assoc, append-nil, arith}
+use Rattle.std.specs.List.{All, list_any, prefix_len, slice_range}
+use Rattle.std.proofs.lemmas.Bool.{or_parts}
+use Rattle.std.proofs.lemmas.List.Elements.{All-nil, All-cons, All-append, All-take, All-drop}
+use Rattle.first_pass_lines.specs.Lines.{is_content, is_line_end, is_space_or_tab}
+use Rattle.first_pass_scan.specs.TableHead.{stripped}
+use Rattle.first_pass_reports.specs.Pairs.{whole_start}
 use Rattle.first_pass_grammar.proofs.Common.{Item}
-use Rattle.first_pass_outline.specs.Titles.{is_break, last_end, line_text, joined_lines}
+use Rattle.first_pass_outline.specs.Titles.{is_break, on_one_line, token_text, last_end, texts_after, first_start, spanned, heading_text}
 
--- the last of some tokens is the one at the last index
-pub last_end_is : (tokens : List (ℕ × Item)) (d : ℕ × Item) → 0 < length tokens → (get_or tokens (length tokens - 1) d).1.«end» ≡ last_end tokens
-last_end_is [] d some = absurd (omega arith)
-last_end_is (token ∷ []) d some = refl
-last_end_is (token ∷ next ∷ tokens) d some =
-    let i : length (token ∷ next ∷ tokens) - 1 ≡ suc (length (next ∷ tokens) - 1) = omega arith in
-    ap (λ k. (get_or (token ∷ next ∷ tokens) k d).1.«end») i ∙ last_end_is (next ∷ tokens) d (omega arith)
+-- the tokens so far, one more, and those after it
+pub token_added : (text so_far whole : List ℕ) (last : ℕ) (token : ℕ × Item) (others tokens : List (ℕ × Item)) → tokens ≡ token ∷ others
+    → so_far ++ texts_after text last tokens ≡ whole → (so_far ++ token_text text last token.1) ++ texts_after text (last_end last token.1) others ≡ whole
+unfolding texts_after
+token_added text so_far whole last token others tokens are h =
+    append_assoc so_far (token_text text last token.1) (texts_after text (last_end last token.1) others)
+    ∙ ap (λ l. so_far ++ texts_after text last l) (sym are) ∙ h
 
--- the parts of a list that is cut, the first apart
-record HasParts {X : Type 0} (parts : List (List X)) : Type 0 where
-  first : List X
-  others : List (List X)
-  are : parts ≡ first ∷ others
+-- after the last token
+pub all_added : (text so_far whole : List ℕ) (last : ℕ) (tokens : List (ℕ × Item)) → length tokens ≡ 0 → so_far ++ texts_after text last tokens ≡ whole
+    → so_far ≡ whole
+unfolding texts_after
+all_added text so_far whole last [] none h = sym (append-nil so_far) ∙ h
+all_added text so_far whole last (token ∷ tokens) none h = absurd (omega arith)
 
-onto_parts : {X : Type 0} (x : X) (parts : List (List X)) → HasParts (onto_first x parts)
-onto_parts x [] = record { first = x ∷ []; others = []; are = refl }
-onto_parts x (part ∷ parts) = record { first = x ∷ part; others = parts; are = refl }
+-- bytes without a line ending
+abbrev IsContent : ℕ → Type 0
+IsContent byte = is_content byte ≡ true
 
-by_test : {X : Type 0} (b : Bool) (cut kept : List (List X)) → HasParts cut → HasParts kept → HasParts (cond b cut kept)
-by_test true cut kept h k = h
-by_test false cut kept h k = k
+no_ends : (bytes : List ℕ) → list_any is_line_end bytes ≡ false → All IsContent bytes
+no_ends [] none = All-nil IsContent
+no_ends (b ∷ bytes) none =
+    let both = or_parts (is_line_end b) (list_any is_line_end bytes) none in
+    All-cons IsContent b bytes (ap not both.0) (no_ends bytes both.1)
 
-some_part : {X : Type 0} (p : X → Bool) (xs : List X) → HasParts (slice_split p xs)
-some_part p [] = record { first = []; others = []; are = refl }
-some_part p (x ∷ xs) =
-    by_test (p x) ([] ∷ slice_split p xs) (onto_first x (slice_split p xs)) (record { first = []; others = slice_split p xs; are = refl })
-    (onto_parts x (slice_split p xs))
+one_line_by : (bytes : List ℕ) (has_end : Bool) → list_any is_line_end bytes ≡ has_end → All IsContent (cond has_end (32 ∷ []) bytes)
+one_line_by bytes true is = All-cons IsContent 32 [] refl (All-nil IsContent)
+one_line_by bytes false is = no_ends bytes is
 
--- the parts after the first one, each after a separator
-joined_after : {X A : Type 0} (f : X → List A) (sep : List A) (parts : List X) (first : X) (others : List X) → parts ≡ first ∷ others
-    → flat_map (λ y. sep ++ f y) parts ≡ sep ++ join_by f sep parts
-joined_after f sep parts first others are =
-    ap (flat_map (λ y. sep ++ f y)) are ∙ append_assoc sep (f first) (flat_map (λ y. sep ++ f y) others) ∙ ap (λ z. sep ++ join_by f sep z) (sym are)
+on_one_line_is : (bytes : List ℕ) → All IsContent (on_one_line bytes)
+on_one_line_is bytes = one_line_by bytes (list_any is_line_end bytes) refl
 
-module _ (text : List ℕ) where
-  abbrev breaks : ℕ × Item → Bool
-  breaks token = is_break token.1.body
+token_by : (text : List ℕ) (last : ℕ) (token : Item) (break : Bool) → All IsContent
+    (cond break [] (on_one_line (slice_range text last (whole_start token)) ++ on_one_line (slice_range text (whole_start token) token.«end»)))
+token_by text last token true = All-nil IsContent
+token_by text last token false =
+    let between = slice_range text last (whole_start token) in
+    let own = slice_range text (whole_start token) token.«end» in
+    All-append IsContent (on_one_line between) (on_one_line own) (on_one_line_is between) (on_one_line_is own)
 
-  abbrev space_list : List ℕ
-  space_list = 32 ∷ []
+texts_are : (text : List ℕ) (last : ℕ) (tokens : List (ℕ × Item)) → All IsContent (texts_after text last tokens)
+unfolding texts_after
+texts_are text last [] = All-nil IsContent
+texts_are text last (token ∷ tokens) =
+    All-append IsContent (token_text text last token.1) (texts_after text (last_end last token.1) tokens)
+    (token_by text last token.1 (is_break token.1.body)) (texts_are text (last_end last token.1) tokens)
 
-  abbrev line : List (ℕ × Item) → List ℕ
-  line tokens = line_text text tokens
-
-  -- a line, a break and the lines after it
-  split_at_break : (tokens : List (ℕ × Item)) (n : ℕ) (token : ℕ × Item) (others : List (ℕ × Item)) → n ≡ position_or_len breaks tokens
-      → drop n tokens ≡ token ∷ others → slice_split breaks tokens ≡ take n tokens ∷ slice_split breaks others
-  split_at_break tokens n token others is following =
-      let size = ap length following in
-      let rest = length-drop n tokens in
-      let more : position_or_len breaks tokens < length tokens = omega arith in
-      slice_split_first breaks tokens token more ∙ ap (λ k. take k tokens ∷ slice_split breaks (drop (k + 1) tokens)) (sym is)
-      ∙ ap (λ l. take n tokens ∷ slice_split breaks l) (sym (drop-drop 1 n tokens) ∙ ap (drop 1) following)
-
-  -- the lines of tokens so far, a space, and those of the rest
-  pub line_joined : (so_far joined : List ℕ) (tokens : List (ℕ × Item)) (n : ℕ) (token : ℕ × Item) (others : List (ℕ × Item))
-      → n ≡ position_or_len breaks tokens → drop n tokens ≡ token ∷ others → so_far ++ joined_lines text tokens ≡ joined
-      → ((so_far ++ line (take n tokens)) ++ space_list) ++ joined_lines text others ≡ joined
-  line_joined so_far joined tokens n token others is following h =
-      let parts = some_part breaks others in
-      let whole : joined_lines text tokens ≡ line (take n tokens) ++ (space_list ++ joined_lines text others) =
-      ap (join_by line space_list) (split_at_break tokens n token others is following)
-      ∙ ap (λ z. line (take n tokens) ++ z) (joined_after line space_list (slice_split breaks others) parts.first parts.others parts.are) in
-      append_assoc (so_far ++ line (take n tokens)) space_list (joined_lines text others)
-      ∙ append_assoc so_far (line (take n tokens)) (space_list ++ joined_lines text others) ∙ ap (λ z. so_far ++ z) (sym whole) ∙ h
-
-  -- the lines of tokens so far and the last line
-  pub last_joined : (so_far joined : List ℕ) (tokens : List (ℕ × Item)) (n : ℕ)
-      → n ≡ position_or_len breaks tokens → n ≤ length tokens → length (drop n tokens) ≡ 0 → so_far ++ joined_lines text tokens ≡ joined
-      → so_far ++ line (take n tokens) ≡ joined
-  last_joined so_far joined tokens n is within none h =
-      let rest = length-drop n tokens in
-      let all : length tokens ≤ n = omega arith in
-      let one : slice_split breaks tokens ≡ tokens ∷ [] = slice_split_none breaks tokens (λ k d within. fails_before_first breaks tokens k d (omega arith)) in
-      let whole : joined_lines text tokens ≡ line tokens = ap (join_by line space_list) one ∙ append-nil (line tokens) in
-      ap (λ l. so_far ++ line l) (take_all n tokens all) ∙ ap (λ z. so_far ++ z) (sym whole) ∙ h
+-- the text of a heading is one line
+pub one_line : (text : List ℕ) (tokens : List (ℕ × Item)) → All (λ byte. is_content byte ≡ true) (heading_text text tokens)
+unfolding stripped
+one_line text tokens =
+    let line = spanned text tokens in
+    let rest = drop (prefix_len is_space_or_tab line) line in
+    All-take IsContent _ rest (All-drop IsContent _ line (texts_are text (first_start tokens) tokens))

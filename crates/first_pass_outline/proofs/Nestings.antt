@@ -1,7 +1,7 @@
 -- The levels of the open headings, and the depth of the next heading.
-use Rattle.std.proofs.Common.{◌≡◌, ℕ, suc, ◌+◌, ◌≤◌, Bool, true, false, cond, List, [], ◌∷◌, ◌++◌, length, map, take, nat_lt, not, refl, sym, ap, ◌∙◌, arith}
+use Rattle.std.proofs.Common.{◌≡◌, ℕ, suc, ◌+◌, ◌≤◌, Bool, false, List, [], ◌∷◌, ◌++◌, length, map, take, nat_lt, not, refl, sym, ap, ◌∙◌, arith}
 use Rattle.std.proofs.Common.{append_assoc, append-nil, flat_map, subst, Option, Some, None, if◌then◌else◌}
-use Rattle.std.specs.List.{cons_option, prefix_len}
+use Rattle.std.specs.List.{cons_option}
 use Rattle.std.proofs.lemmas.Bool.Decides.{nat_tests}
 use Rattle.std.proofs.lemmas.List.Sums.{prefix_len-le-length}
 use Rattle.std.proofs.lemmas.List.{length-take-le, length-append}
@@ -46,7 +46,8 @@ open_is (last ∷ earlier) =
     omega arith
 
 -- the entry of a heading
-placed_is : (earlier levels : List ℕ) (follows : Bool) (title : Title) → levels ≡ open_levels earlier → placed_among levels follows title ≡ place earlier follows title
+placed_is : (earlier levels : List ℕ) (follows : Bool) (title : Title) → levels ≡ open_levels earlier
+    → placed_among levels follows title ≡ place earlier follows title
 placed_is earlier levels follows title are =
     let depth = ap (λ l. around_count l (level_of_title title)) are ∙ depth_is earlier (level_of_title title) in
     let opened = ap length are ∙ open_is earlier in

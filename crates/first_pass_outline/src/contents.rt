@@ -122,8 +122,8 @@ impl<'a> Contents<'a> {
     }
 }
 
-// Replaces the levels of the open headings by those after a heading of this level. Returns the number of headings around
-// it.
+// Replaces the levels of the open headings by those after a heading of this level. Returns the number of headings
+// around it.
 fn enter(levels: &mut Vec<usize>, level: usize) -> Result<usize, AllocError>
     ensures depth { IfOk result (λ depth. depth ≡ around_count levels.old.items level) }
     ensures levels { OnOk result (levels.new.items ≡ with_level levels.old.items level) }

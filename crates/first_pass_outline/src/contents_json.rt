@@ -3,13 +3,12 @@
 ghost use Rattle.first_pass_json.specs.JsonValues.{json_string};
 ghost use Rattle.first_pass_outline.specs.ContentsLines.{between_objects, closed, object_opened, title_line, title_members};
 ghost use Rattle.first_pass_outline.specs.ContentsViews.{placed_in};
-ghost use Rattle.json.specs.Print.{escape, escape_byte};
-ghost use Rattle.std.specs.Char.{digit_char};
-ghost use Rattle.std.specs.Prelude.{◌≡◌, ◌<◌, ◌++◌, OnOk};
+ghost use Rattle.json.specs.Print.{escape};
+ghost use Rattle.std.specs.Prelude.{◌≡◌, ◌++◌, OnOk};
 
 use crate::contents::ContentsEntry;
-use first_pass_json::node::append_range;
-use first_pass_json::values::{append_number_after, append_string_or_null};
+use first_pass_json::range::{Offsets, RangeForm};
+use first_pass_json::values::{append_escape, append_number_after, append_string_or_null};
 use first_pass_lines::lines::level_number;
 use std::alloc::AllocError;
 
@@ -68,7 +67,7 @@ fn append_members(line: &mut Vec<u8>, entry: &ContentsEntry<'_>) -> Result<(), A
     append_quoted(line, entry.text.as_slice())?;
     line.extend_from_slice(b",\"id\":")?;
     append_string_or_null(line, heading.id)?;
-    append_range(line, heading.range.start, heading.range.end)
+    Offsets.append_range(line, heading.range.start, heading.range.end)
 }
 
 // Appends bytes in quotation marks, with the escapes of JSON.
@@ -87,44 +86,7 @@ fn append_escaped(line: &mut Vec<u8>, bytes: &[u8]) -> Result<(), AllocError>
     ensures { OnOk result (line.new.items ≡ line.old.items ++ escape bytes.now) }
 {
     for byte in bytes {
-        append_escaped_byte(line, *byte)?;
+        append_escape(line, *byte)?;
     }
     Ok(())
-}
-
-// Appends a byte, or its escape if it has one.
-#[tactic(auto, unfolding(json::specs::Print::escape_byte))]
-fn append_escaped_byte(line: &mut Vec<u8>, byte: u8) -> Result<(), AllocError>
-    ensures { OnOk result (line.new.items ≡ line.old.items ++ escape_byte byte) }
-{
-    match byte {
-        b'"' => line.extend_from_slice(b"\\\""),
-        b'\\' => line.extend_from_slice(b"\\\\"),
-        0x08 => line.extend_from_slice(b"\\b"),
-        0x0c => line.extend_from_slice(b"\\f"),
-        b'\n' => line.extend_from_slice(b"\\n"),
-        b'\r' => line.extend_from_slice(b"\\r"),
-        b'\t' => line.extend_from_slice(b"\\t"),
-        0..32 => line.extend_from_slice(&[
-            b'\\',
-            b'u',
-            b'0',
-            b'0',
-            digit_of(byte / 16),
-            digit_of(byte % 16),
-        ]),
-        _ => line.extend_from_slice(&[byte]),
-    }
-}
-
-// The digit of a number below 16, in lower case.
-fn digit_of(number: u8) -> u8
-    requires { number < 16 }
-    ensures { result ≡ digit_char number }
-{
-    if number < 10 {
-        b'0' + number
-    } else {
-        b'a' + (number - 10)
-    }
 }

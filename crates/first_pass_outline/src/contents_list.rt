@@ -4,9 +4,9 @@ ghost use Rattle.first_pass_outline.specs.ContentsLines.{after_bullet, is_below_
 ghost use Rattle.first_pass_outline.specs.ContentsViews.{placed_in};
 ghost use Rattle.std.specs.Prelude.{◌≡◌, ◌++◌, OnOk};
 
-use crate::borrowed::append_indentation;
 use crate::contents::{ContentsEntry, is_unwritten, link_of};
 use crate::entry_text::append_written;
+use first_pass_reports::printed::node::append_indentation;
 use std::alloc::AllocError;
 
 /// Appends the line of an entry: two spaces for each heading around it, `-`, and its text or a link after a space. If

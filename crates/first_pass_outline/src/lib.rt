@@ -3,7 +3,6 @@
 //! contents: as a Markdown list, or as objects in JSON.
 #![tactic(auto)]
 
-pub mod borrowed;
 pub mod contents;
 pub mod contents_json;
 pub mod contents_list;

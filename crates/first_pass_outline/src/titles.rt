@@ -1,57 +1,74 @@
 //! The text of a heading.
 
-ghost use Rattle.first_pass_lines.specs.Lines.{is_space_or_tab};
-ghost use Rattle.first_pass_outline.specs.Titles.{below, heading_text, is_break, joined_lines, last_end, line_text};
+ghost use Rattle.first_pass_lines.specs.Lines.{is_content, is_line_end, is_space_or_tab};
+ghost use Rattle.first_pass_outline.specs.Titles.{below, first_start, heading_text, is_break, last_end, on_one_line, spanned, token_text};
 ghost use Rattle.first_pass_scan.specs.TableHead.{stripped};
-ghost use Rattle.std.specs.List.{position_or_len, prefix_len, suffix_len};
-ghost use Rattle.std.specs.Prelude.{◌≡◌, ◌++◌, ◌≤◌, ◌<◌, length, nat_lt, IfOk, OnOk};
+ghost use Rattle.std.specs.List.{All, list_any, prefix_len, suffix_len};
+ghost use Rattle.std.specs.Prelude.{◌≡◌, ◌++◌, ◌≤◌, length, nat_lt, true, IfOk, OnOk};
 
-use crate::borrowed::{bytes_between, whole_start};
 use first_pass_items::item::{Item, ItemBody};
-use first_pass_lines::lines::{is_space_or_tab, scan_blanks};
+use first_pass_lines::lines::{is_line_end, is_space_or_tab, scan_blanks};
 use first_pass_lines::places::rest_of;
+use first_pass_reports::references::label::{bytes_between, whole_start};
 use std::alloc::{AllocError, Global};
 
 /// Returns the text of a heading with these tokens: its Markdown on one line. Each line is the part of the text from
 /// the start of its first token, with a backslash that was dropped before it, to the end of its last. The lines are
-/// joined by spaces. There is no space or tab at either end. Fails only if an allocation fails.
+/// joined by spaces. There is no space or tab at either end, and no line ending. Fails only if an allocation fails.
 pub fn heading_text(
     alloc: Global,
     text: &[u8],
     tokens: &[(usize, Item)],
 ) -> Result<Vec<u8>, AllocError>
-    ensures { IfOk result (λ bytes. bytes.items ≡ heading_text text.now tokens.now) }
+    ensures value { IfOk result (λ bytes. bytes.items ≡ heading_text text.now tokens.now) }
+    ensures one_line { IfOk result (λ bytes. All (λ byte. is_content byte ≡ true) bytes.items) }
 {
-    let joined = joined_lines(alloc, text, tokens)?;
-    stripped(joined.as_slice()).to_vec(alloc)
+    let spanned = spanned(alloc, text, tokens)?;
+    stripped(spanned.as_slice()).to_vec(alloc)
 }
 
-// The texts of the lines between the breaks among tokens, with a space between each two.
-fn joined_lines(alloc: Global, text: &[u8], tokens: &[(usize, Item)]) -> Result<Vec<u8>, AllocError>
-    ensures { IfOk result (λ joined. joined.items ≡ joined_lines text.now tokens.now) }
+// The text that tokens span, on one line.
+fn spanned(alloc: Global, text: &[u8], tokens: &[(usize, Item)]) -> Result<Vec<u8>, AllocError>
+    ensures { IfOk result (λ line. line.items ≡ spanned text.now tokens.now) }
 {
-    let mut joined = Vec::new(alloc);
+    let mut line = Vec::new(alloc);
+    let mut last = first_start(tokens);
     let mut rest = tokens;
-    loop {
-        let (line, following) = rest.split_at(line_count(rest));
-        append_line(&mut joined, text, line)?;
-        let Some((_break, others)) = following.split_first() else {
-            return Ok(joined);
-        };
-        joined.push(b' ')?;
+    while let Some((token, others)) = rest.split_first() {
+        last = append_token(&mut line, text, last, token.1)?;
         rest = others;
+    }
+    Ok(line)
+}
+
+// The start of the first of some tokens.
+fn first_start(tokens: &[(usize, Item)]) -> usize
+    ensures { result ≡ first_start tokens.now }
+{
+    match tokens {
+        [] => 0,
+        [(_, first), ..] => whole_start(*first),
     }
 }
 
-// The number of tokens before the first break.
-fn line_count(tokens: &[(usize, Item)]) -> usize
-    ensures value { result ≡ position_or_len (λ token. is_break token.1.body) tokens.now }
-    ensures within { result ≤ length tokens.now }
+// Appends a token of a line, after what is between the token before it, which ends at `last`, and it. A break is not
+// appended. Returns the end of the last token of a line.
+fn append_token(
+    line: &mut Vec<u8>,
+    text: &[u8],
+    last: usize,
+    token: Item,
+) -> Result<usize, AllocError>
+    ensures items { OnOk result (line.new.items ≡ line.old.items ++ token_text text.now last token) }
+    ensures last { IfOk result (λ after. after ≡ last_end last token) }
 {
-    tokens
-        .iter()
-        .take_while(|token| !is_break(token.1.body))
-        .count()
+    if is_break(token.body) {
+        return Ok(last);
+    }
+    let start = whole_start(token);
+    append_on_one_line(line, bytes_between(text, last, start))?;
+    append_on_one_line(line, bytes_between(text, start, token.end))?;
+    Ok(token.end)
 }
 
 // Whether a token is a break between two lines.
@@ -61,25 +78,22 @@ fn is_break(body: ItemBody) -> bool
     matches!(body, ItemBody::SoftBreak | ItemBody::HardBreak(_))
 }
 
-// Appends the part of the text that the tokens of a line span.
-fn append_line(joined: &mut Vec<u8>, text: &[u8], line: &[(usize, Item)]) -> Result<(), AllocError>
-    ensures { OnOk result (joined.new.items ≡ joined.old.items ++ line_text text.now line.now) }
+// Appends bytes, or a space if a line ending is among them.
+fn append_on_one_line(line: &mut Vec<u8>, bytes: &[u8]) -> Result<(), AllocError>
+    ensures { OnOk result (line.new.items ≡ line.old.items ++ on_one_line bytes.now) }
 {
-    match line {
-        [] => Ok(()),
-        [(_, first), ..] => {
-            let part = bytes_between(text, whole_start(*first), last_end(line));
-            joined.extend_from_slice(part)
-        }
+    if has_line_end(bytes) {
+        line.extend_from_slice(b" ")
+    } else {
+        line.extend_from_slice(bytes)
     }
 }
 
-// The end of the last of some tokens.
-fn last_end(tokens: &[(usize, Item)]) -> usize
-    requires { 0 < length tokens.now }
-    ensures { result ≡ last_end tokens.now }
+// Whether a line ending is among bytes.
+fn has_line_end(bytes: &[u8]) -> bool
+    ensures { result ≡ list_any is_line_end bytes.now }
 {
-    tokens[tokens.len() - 1].1.end
+    bytes.iter().any(|b| is_line_end(*b))
 }
 
 // The bytes without spaces and tabs at both ends.

@@ -2,6 +2,7 @@
 
 mod columns;
 mod labels;
+mod line_columns;
 mod pieces;
 mod places;
 mod ranges;

@@ -4,7 +4,10 @@ pub mod FootnotePlaces
 pub mod FootnoteTables
 pub mod HeadingPlaces
 pub mod InfoFacts
+pub mod LineColumnSteps
+pub mod LineTableMarks
 pub mod MarkedBlocks
 pub mod PlacedWords
 pub mod RangeBoundaries
+pub mod Utf16Units
 pub mod WordPlaces

@@ -3,6 +3,8 @@ pub mod AttributePlaces
 pub mod FootnoteLabels
 pub mod FootnoteNodes
 pub mod InfoStrings
+pub mod LineColumns
+pub mod LineTables
 pub mod NamePlaces
 pub mod PlacedAttributes
 pub mod RangeEnds

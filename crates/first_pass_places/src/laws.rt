@@ -1,6 +1,6 @@
 //! Laws of the range that an info string, a footnote's label or a heading's attributes have in the text: reading the
 //! range gives what the node names, and both ends are on character boundaries. Also a law of the table that
-//! `footnote_nodes` returns.
+//! `footnote_nodes` returns, and one of the units in which columns are counted.
 
 ghost use Rattle.first_pass_attributes.specs.Attributes.{attributes_of};
 ghost use Rattle.first_pass_grammar.specs.CodeBlocks.{IsFencedCode};
@@ -24,11 +24,14 @@ ghost use Rattle.first_pass_places.specs.AttributePlaces.{attribute_ranges};
 ghost use Rattle.first_pass_places.specs.FootnoteLabels.{label_range};
 ghost use Rattle.first_pass_places.specs.FootnoteNodes.{AreFirstFootnotes, entry_label};
 ghost use Rattle.first_pass_places.specs.InfoStrings.{bytes_in};
+ghost use Rattle.first_pass_places.specs.LineColumns.{utf16_len};
 ghost use Rattle.first_pass_places.specs.NamePlaces.{FirstIsReadFromText, HasNameOnBoundaries, HaveWholeStarts, NamesLabelAt};
 ghost use Rattle.first_pass_places.specs.PlacedAttributes.{attributes_from_places};
 ghost use Rattle.first_pass_scan.specs.LeafLines.{code_fence};
+ghost use Rattle.std.specs.Char.Escape.{encode_utf16};
 ghost use Rattle.std.specs.declared.ops.Range.{Range};
-ghost use Rattle.std.specs.Prelude.{◌≡◌, ◌+◌, ◌≤◌, ℕ, List, Option, Some, IfSome, IsUtf8, All, drop, length, map};
+ghost use Rattle.std.specs.List.{flat_map};
+ghost use Rattle.std.specs.Prelude.{◌≡◌, ◌+◌, ◌≤◌, ℕ, List, Option, Some, IfSome, IsUtf8, All, drop, encode_utf8_all, length, map};
 
 /// The info string that a fenced code block names is what the bytes in `info_range` give, with escapes and references
 /// resolved. The block begins at `start` with a fence of `count` bytes, each equal to `byte` (CommonMark 4.5).
@@ -96,4 +99,10 @@ pub fn names_have_whole_characters()
 pub fn footnotes_have_nodes()
     ensures { (d : Document) (nodes : List (ℕ × Item)) (tables : Tables) (table : List (CowStr × ℕ))
         → Derives d nodes tables → AreFirstFootnotes d.names nodes table → map entry_label table ≡ tables.footnotes }
+{}
+
+/// The units that are counted in the bytes of a text are those that its characters have in UTF-16 (this project).
+pub fn columns_are_in_utf16()
+    ensures { (characters : List ℕ)
+        → utf16_len (encode_utf8_all characters) ≡ length (flat_map encode_utf16 characters) }
 {}

@@ -8,4 +8,6 @@ pub mod footnote_label;
 pub mod footnotes;
 pub mod info_string;
 pub mod laws;
+pub mod line_column;
+pub mod line_table;
 pub mod name;

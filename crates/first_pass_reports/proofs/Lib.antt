@@ -1,2 +1,2 @@
 mod Named
-mod NodeLines
+pub mod NodeLines

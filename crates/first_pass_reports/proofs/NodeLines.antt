@@ -1,9 +1,9 @@
 -- The lines of nodes, node by node.
 use Rattle.std.proofs.Common.{◌≡◌, ℕ, zero, suc, ◌+◌, ◌-◌, ◌<◌, List, [], ◌∷◌, ◌++◌, length, drop, arith, refl, sym, ap, ◌∙◌, drop-drop}
-use Rattle.first_pass_grammar.proofs.Common.{Item, Names, LinkEntry}
+use Rattle.first_pass_grammar.proofs.Common.{Item}
 use Rattle.std.specs.Range.{range_steps}
 use Rattle.first_pass_host.specs.Held.{Calls, CallsAppendLine, AreItemLines}
-use Rattle.first_pass_reports.specs.ReferenceLines.{first_lines, node_lines}
+use Rattle.first_pass_reports.specs.ReferenceLines.{node_lines}
 
 -- the lines of consecutive numbers from a first one on
 pub lines_from : (ℕ → List ℕ) → ℕ → ℕ → List ℕ
@@ -29,14 +29,19 @@ number_lines calls line appends = record {
   none = λ s t step. none_left line s.start (s.«end» - s.start) step.1.0;
 }
 
-module _ (text : List ℕ) (names : Names) (links : List LinkEntry) (all : List (ℕ × Item)) where
+module _ (lines : List (ℕ × Item) → List ℕ) (all : List (ℕ × Item)) where
   abbrev pub line_from : ℕ → List ℕ
-  line_from i = first_lines text names links (drop i all)
+  line_from i = lines (drop i all)
 
-  pub rest_lines : (rest : List (ℕ × Item)) (i : ℕ) → drop i all ≡ rest → lines_from line_from i (length rest) ≡ node_lines text names links rest
+  pub rest_lines : (rest : List (ℕ × Item)) (i : ℕ) → drop i all ≡ rest → lines_from line_from i (length rest) ≡ node_lines lines rest
   unfolding lines_from node_lines
   rest_lines [] i is = refl
   rest_lines (first ∷ rest) i is =
       let more = rest_lines rest (i + 1) (sym (drop-drop 1 i all) ∙ ap (drop 1) is) in
-      ap (λ l. first_lines text names links l ++ lines_from line_from (i + 1) (length rest)) is
-      ∙ ap (λ l. first_lines text names links (first ∷ rest) ++ l) more
+      ap (λ l. lines l ++ lines_from line_from (i + 1) (length rest)) is ∙ ap (λ l. lines (first ∷ rest) ++ l) more
+
+  -- the lines of all nodes, by their numbers
+  pub all_lines : (nodes : List (ℕ × Item)) → all ≡ nodes → lines_from line_from 0 (length all - 0) ≡ node_lines lines nodes
+  all_lines nodes is =
+      let count : length all - 0 ≡ length all = omega arith in
+      ap (lines_from line_from 0) count ∙ rest_lines all 0 refl ∙ ap (node_lines lines) is

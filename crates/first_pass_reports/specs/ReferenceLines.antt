@@ -35,12 +35,12 @@ first_lines text names links [] = []
 first_lines text names links (first ∷ nodes) =
     footnote_line names first.1 ++ flat_map reference_line (option_to_list (reference_at text links (first ∷ nodes)))
 
--- the lines of all footnote definitions and references among nodes, in reading order
-unfoldable pub node_lines : List ℕ → Names → List LinkEntry → List (ℕ × Item) → List ℕ
-node_lines text names links [] = []
-node_lines text names links (first ∷ nodes) = first_lines text names links (first ∷ nodes) ++ node_lines text names links nodes
+-- the lines of nodes in reading order, where the lines of the first of some nodes are given
+unfoldable pub node_lines : (List (ℕ × Item) → List ℕ) → List (ℕ × Item) → List ℕ
+node_lines lines [] = []
+node_lines lines (first ∷ nodes) = lines (first ∷ nodes) ++ node_lines lines nodes
 
 -- the lines of a tree and its tables: those of the link definitions, in the order of their table, then those of the
 -- nodes
 abbrev pub links_lines : List ℕ → Names → List (ℕ × Item) → Tables → List ℕ
-links_lines text names nodes tables = flat_map definition_line tables.links ++ node_lines text names tables.links nodes
+links_lines text names nodes tables = flat_map definition_line tables.links ++ node_lines (first_lines text names tables.links) nodes

@@ -9,8 +9,8 @@ ghost use Rattle.std.specs.List.{flat_map};
 ghost use Rattle.std.specs.Option.{option_map};
 ghost use Rattle.std.specs.Prelude.{◌≡◌, ◌<◌, ◌^◌, ◌∷◌, [], length, map, OnOk, is_some, unwrap_or};
 
-use crate::flat::fault::append_record;
 use crate::flat::names::append_text;
+use crate::flat::numbers::append_record;
 use crate::flat::records::FlatAttribute;
 use first_pass_items::item::{HeadingIndex, Item, ItemBody};
 use first_pass_names::items::{Allocations, HeadingAttributes};

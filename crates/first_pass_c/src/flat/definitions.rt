@@ -8,8 +8,8 @@ ghost use Rattle.first_pass_names.specs.TableEntries.{footnote_label, link_entry
 ghost use Rattle.std.specs.Option.{option_map};
 ghost use Rattle.std.specs.Prelude.{◌≡◌, ◌∷◌, [], map, OnOk, is_some, unwrap_or};
 
-use crate::flat::fault::append_record;
 use crate::flat::names::append_text;
+use crate::flat::numbers::append_record;
 use crate::flat::records::FlatDefinition;
 use first_pass_items::cow_str::CowStr;
 use first_pass_names::items::{FootDefs, LabelKey, LinkDef, RefDefs};

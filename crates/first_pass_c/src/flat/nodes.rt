@@ -13,9 +13,9 @@ ghost use Rattle.std.specs.List.{flat_map};
 ghost use Rattle.std.specs.Prelude.{◌≡◌, ◌≤◌, ◌<◌, ◌+◌, ℕ, List, length, drop, All, IfOk, IsErr, OnOk};
 
 use crate::flat::attributes::attribute_count;
-use crate::flat::fault::{TooLong, bound_of_both};
 use crate::flat::kinds::{FlatValues, kind_number, values_of};
 use crate::flat::names::name_length;
+use crate::flat::numbers::{TooLong, bound_of_both};
 use crate::flat::records::FlatNode;
 use crate::flat::side::SideTables;
 use first_pass_items::item::{Item, ItemBody};

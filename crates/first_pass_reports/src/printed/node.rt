@@ -44,9 +44,9 @@ pub fn append_range(line: &mut Vec<u8>, start: usize, end: usize) -> Result<(), 
     Ok(())
 }
 
-// Appends two spaces for each level of depth.
+/// Appends two spaces for each level of depth. Fails only if an allocation fails.
 #[tactic(auto, unfolding(crate::specs::Printed::indentation))]
-fn append_indentation(line: &mut Vec<u8>, depth: usize) -> Result<(), AllocError>
+pub fn append_indentation(line: &mut Vec<u8>, depth: usize) -> Result<(), AllocError>
     ensures { OnOk result (line.new.items ≡ line.old.items ++ indentation depth) }
 {
     for _level in 0..depth {

@@ -32,8 +32,8 @@ fn append_part(label: &mut Vec<u8>, text: &[u8], token: Item) -> Result<(), Allo
     }
 }
 
-// The start of a token, including the backslash that was dropped before it (CommonMark 2.4).
-fn whole_start(token: Item) -> usize
+/// The start of a token, including the backslash that was dropped before it (CommonMark 2.4).
+pub fn whole_start(token: Item) -> usize
     ensures { result ≡ whole_start token }
 {
     if is_escaped(token.body) {
@@ -54,8 +54,8 @@ fn is_escaped(body: ItemBody) -> bool
     }
 }
 
-// The bytes between two offsets, as far as the text has them.
-fn bytes_between(text: &[u8], from: usize, to: usize) -> &[u8]
+/// Returns the bytes between two offsets, as far as the text has them.
+pub fn bytes_between(text: &[u8], from: usize, to: usize) -> &[u8]
     ensures { result.now ≡ slice_range text.now from to }
 {
     let rest = text.get(from..).unwrap_or(&[]);

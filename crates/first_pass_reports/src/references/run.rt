@@ -38,8 +38,8 @@ impl TreeLines for ListedLinks {
     }
 }
 
-// The nodes from an index on.
-fn nodes_from(nodes: &[(usize, Item)], first: usize) -> &[(usize, Item)]
+/// Returns the nodes from an index on.
+pub fn nodes_from(nodes: &[(usize, Item)], first: usize) -> &[(usize, Item)]
     ensures { result.now ≡ drop first nodes.now }
 {
     nodes.get(first..).unwrap_or(&[])

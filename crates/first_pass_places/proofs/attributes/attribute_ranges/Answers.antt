@@ -1,5 +1,4 @@
 use Rattle.std.proofs.Common.{arith}
-use Rattle.first_pass_places.specs.AttributePlaces.{attribute_ranges}
 use Rattle.first_pass_places.proofs.WordPlaces.{places_between}
 use Rattle.first_pass_places.proofs.attributes.attribute_ranges.Goals as goal
 

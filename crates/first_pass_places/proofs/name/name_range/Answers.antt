@@ -1,5 +1,4 @@
 use Rattle.std.proofs.Common.{arith}
-use Rattle.first_pass_places.specs.NamePlaces.{name_range}
 use Rattle.first_pass_places.proofs.RangeBoundaries.{name_between}
 use Rattle.first_pass_places.proofs.name.name_range.Goals as goal
 

@@ -15,6 +15,7 @@ pub returns : goal.returns
 returns g c =
     let line : ContentsEntry → List ℕ = λ e. item_line (placed_in e) in
     let items = c.write_each.ensures _ _ (element_lines _ line (λ old new x call. search of_calls)) in
-    let entries_are = ap (flat_map line) (c.iter.ensures.rest ∙ c.entries.ensures) ∙ sym (flat_map-map item_line placed_in c.in_ok-contents.contents.entries.items)
+    let entries_are = ap (flat_map line) (c.iter.ensures.rest ∙ c.entries.ensures)
+    ∙ sym (flat_map-map item_line placed_in c.in_ok-contents.contents.entries.items)
     ∙ ap (flat_map item_line) c.in_ok-contents.ensures.entries in
     written_as _ _ _ _ entries_are items

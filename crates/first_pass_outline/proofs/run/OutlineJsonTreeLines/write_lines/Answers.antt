@@ -18,6 +18,7 @@ returns g c =
     let of_entry : Placed → List ℕ = λ entry. title_line entry.title in
     let line : ContentsEntry → List ℕ = λ e. of_entry (placed_in e) in
     let items = c.write_each.ensures _ _ (element_lines _ line (λ old new x call. search of_calls)) in
-    let entries_are = ap (flat_map line) (c.iter.ensures.rest ∙ c.entries.ensures) ∙ sym (flat_map-map of_entry placed_in c.in_ok-contents.contents.entries.items)
+    let entries_are = ap (flat_map line) (c.iter.ensures.rest ∙ c.entries.ensures)
+    ∙ sym (flat_map-map of_entry placed_in c.in_ok-contents.contents.entries.items)
     ∙ ap (flat_map of_entry) c.in_ok-contents.ensures.entries ∙ lines_of_titles title_line [] false _ in
     written_as _ _ _ _ entries_are items

@@ -1,9 +1,9 @@
-use Rattle.std.proofs.Common.{◌≡◌, ◌-◌, map, length, ap, refl, ◌∙◌, arith, rules, of_calls, flat_map}
+use Rattle.std.proofs.Common.{map, ap, ◌∙◌, rules, of_calls, flat_map}
 use Rattle.first_pass_host.proofs.HeldLines.{written_as, first_failed, then_written}
 use Rattle.first_pass_host.proofs.ItemLines.{entry_lines}
 use Rattle.first_pass_names.specs.TableEntries.{names_of, tables_of, link_entry}
-use Rattle.first_pass_reports.specs.ReferenceLines.{definition_line, node_lines}
-use Rattle.first_pass_reports.proofs.NodeLines.{lines_from, line_from, number_lines, rest_lines}
+use Rattle.first_pass_reports.specs.ReferenceLines.{definition_line, first_lines}
+use Rattle.first_pass_reports.proofs.NodeLines.{all_lines, line_from, number_lines}
 use Rattle.first_pass_reports.proofs.references.run.ListedLinksTreeLines.write_lines.Goals as goal
 
 pub returns-in_err-write_each : goal.returns-in_err-write_each
@@ -16,12 +16,7 @@ pub returns : goal.returns
 returns g c =
     let links = c.in_ok-write_each.ensures _ _ (entry_lines _ definition_line link_entry (λ old new x call. search of_calls)) in
     let links_are = ap (λ l. flat_map definition_line (map link_entry l)) (c.iter.ensures.entries ∙ c.refdefs.ensures) in
-    let tables = tables_of c.args.parsed.now.allocs in
-    let names = names_of c.args.parsed.now.allocs in
+    let first = first_lines c.args.parsed.now.text.now (names_of c.args.parsed.now.allocs) (tables_of c.args.parsed.now.allocs).links in
     let all = c.nodes-nodes.result.now in
-    let line = line_from c.args.parsed.now.text.now names tables.links all in
-    let nodes = c.write_each-2.ensures _ _ (number_lines _ line (λ old new x call. search of_calls)) in
-    let count : length all - 0 ≡ length all = omega arith in
-    let nodes_are = ap (lines_from line 0) count ∙ rest_lines c.args.parsed.now.text.now names tables.links all all 0 refl
-    ∙ ap (node_lines c.args.parsed.now.text.now names tables.links) c.nodes-nodes.ensures in
-    then_written _ _ _ _ _ _ (written_as _ _ _ _ links_are links) (written_as _ _ _ _ nodes_are nodes)
+    let nodes = c.write_each-2.ensures _ _ (number_lines _ (line_from first all) (λ old new x call. search of_calls)) in
+    then_written _ _ _ _ _ _ (written_as _ _ _ _ links_are links) (written_as _ _ _ _ (all_lines first all _ c.nodes-nodes.ensures) nodes)
