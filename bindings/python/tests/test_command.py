@@ -77,7 +77,6 @@ class OutlineTest(CommandTest):
         ran = run("outline", name, "-o", "all", name, "--threads", "2", name)
         self.assertEqual(ran.stdout.count(b'"id":"b"'), 3)
 
-
     def test_a_byte_order_mark(self):
         name, plain = self.write("a.md", b"\xef\xbb\xbf# a\n"), self.write("b.md", b"# b\n")
         warning = "first_pass: F/a.md: begins with a byte order mark; --strip-bom leaves it out"

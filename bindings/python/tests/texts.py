@@ -8,7 +8,6 @@ import sys
 from pathlib import Path
 
 TOP = Path(__file__).resolve().parents[3]
-TABLE = TOP / "crates/block_cases/stdin"
 ALL_OPTIONS = 65534
 
 MARKS = r"""
@@ -42,8 +41,7 @@ MOST_PARTS = 50
 
 
 def load_script(path):
-    """A script of the repository as a module. `.ci/json-test` reads the table, and knows which lines are wanted for a
-    printed tree."""
+    """A script of the repository as a module, such as the one that reads the table."""
     loader = importlib.machinery.SourceFileLoader(Path(path).name.replace("-", "_"), str(TOP / path))
     spec = importlib.util.spec_from_loader(loader.name, loader)
     module = importlib.util.module_from_spec(spec)
@@ -57,9 +55,8 @@ def load_script(path):
 
 def cases():
     """The cases of the table: the options of each, its text in UTF-8, and its printed tree."""
-    table = TABLE.read_bytes().decode()
-    for words, text, tree in load_script(".ci/json-test").cases_of(table):
-        yield int(words[0]) if words else 0, text.encode(), tree
+    for options, text, tree in load_script(".ci/common.py").read_cases(TOP):
+        yield options, text.encode(), tree
 
 
 def random_texts(count, seed=1):

@@ -1,6 +1,6 @@
-//! `block_cases [soak [SECONDS [SEED]]]`: reads a table of texts and of the trees printed for them, and prints the cases
-//! that differ. Below them are texts of which each front (prefix) is read: the ranges of its tree must be in order.
-//! After the word `soak` random texts are read, too.
+//! `block_cases [soak [SECONDS [SEED]]]`: reads a table of texts and of the trees printed for them, and prints the
+//! cases that differ. Below them are texts of which each front (prefix) is read: the ranges of its tree must be in
+//! order. After the word `soak` random texts are read, too.
 //!
 //! A case is a group of lines, and an empty line ends it:
 //!

@@ -1,7 +1,7 @@
 //! Random texts, whose trees must have ranges in order.
 //!
-//! Each text is a sequence of snippets, and is read under random options. Texts are read for a number of seconds, but at
-//! least 1,000 texts, or until the tree of one is not in order. The same seed gives the same texts.
+//! Each text is a sequence of snippets, and is read under random options. Texts are read for a number of seconds, but
+//! at least 1,000 texts, or until the tree of one is not in order. The same seed gives the same texts.
 //!
 //! The report has the seed and the number of texts that were read. If the tree of a text is not in order, it also has
 //! the options, what is wrong, and the smallest such text that is found by removing snippets: each line after a bar,
@@ -32,8 +32,8 @@ const BATCH: u32 = 1000;
 // One second in nanoseconds.
 const SECOND: u128 = 1_000_000_000;
 
-/// Reads random texts as the task requests, and appends the result to the report. The default seed is the reading of the
-/// clock. Returns whether the tree of a text is not in order.
+/// Reads random texts as the task requests, and appends the result to the report. The default seed is the reading of
+/// the clock. Returns whether the tree of a text is not in order.
 pub fn read_random_texts<T: TimeSource>(
     clock: &mut T,
     alloc: Global,

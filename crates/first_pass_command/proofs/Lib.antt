@@ -1,2 +1,3 @@
 mod Fronts
+mod Lists
 mod NamedLines

@@ -3,7 +3,7 @@ use Rattle.std.proofs.Common.{◌≡◌, ◌==◌, ◌∙◌, ℕ, List, [], ◌
 use Rattle.first_pass_host.specs.Runs.{WritesOutput}
 use Rattle.first_pass_host.specs.Streams.{stream_between}
 use Rattle.first_pass_items.specs.declared.option_set.Options.{Options}
-use Rattle.first_pass_command.specs.Named.{SaysNamed, file_member, with_member}
+use Rattle.first_pass_command.specs.Named.{SaysHeadings, SaysNamed, file_member, headings_line, with_member}
 
 -- a byte, and the member after the first byte of a line
 pub byte_appended : (old new more whole member : List ℕ) (byte : ℕ) (starts : Bool) → new ≡ old ++ (byte ∷ (if starts then member else []))
@@ -22,3 +22,9 @@ pub says_named : (Says : Options → List ℕ → List ℕ → Type 0) (name : L
     → SaysNamed Says name options text lines
 says_named Says name options text json member lines written is appended =
     record { lines = written.whole; says = written.says; named = appended ∙ ap₂ (with_member true) is written.appended }
+
+-- the array that is held, as a member
+pub says_headings : (Says : Options → List ℕ → List ℕ → Type 0) (name : List ℕ) (options : Options) (text array line : List ℕ)
+    → WritesOutput Says options text (stream_between (Some []) (Some array)) → line ≡ headings_line name array → SaysHeadings Says name options text line
+says_headings Says name options text array line written is =
+    record { array = written.whole; says = written.says; named = is ∙ ap (headings_line name) written.appended }

@@ -1,5 +1,7 @@
+pub mod Calls
 pub mod Faults
 pub mod Files
 pub mod Named
+pub mod Pages
 pub mod Reports
-pub mod Words
+pub mod Timed

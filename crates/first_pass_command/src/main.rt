@@ -2,29 +2,29 @@
 #![tactic(auto)]
 
 mod call;
-mod command;
 mod fault;
-mod options;
-mod place;
+mod page;
 mod reports;
 mod run;
 mod screen;
 mod source;
+mod timed;
+mod word_fault;
 mod writers;
 
-use crate::call::{Reports, Shell, run_call};
-use crate::command::{Call, call_of, command, report_named};
-use crate::options::{bits_of, misplaced_message};
+use crate::call::{Shell, run_call};
 use crate::screen::Screen;
 use crate::source::HostSource;
+use crate::word_fault::{misplaced_message, word_message};
 use crate::writers::{Closes, Writers};
-use first_pass_blocks::parser::BlockParser;
+use bitflags::Flags;
+use clap::error::ErrorKind as ClapKind;
+use first_pass_host::clock::HostClock;
 use first_pass_host::output::write_whole;
-use first_pass_host::tree_report::TreeReport;
-use first_pass_json::run::JsonTree;
-use first_pass_outline::run::ListedOutline;
-use first_pass_reports::printed::run::PrintedBlocks;
-use first_pass_reports::references::run::ListedLinks;
+use first_pass_items::option_set::Options;
+use first_pass_json::template::VIEW;
+use first_pass_program::words::call::{Call, WordFault, read_words};
+use first_pass_program::words::option_names::{add_options, names_help};
 use std::alloc::AllocError;
 use std::io::{ErrorKind, IsTerminal, Stderr, Stdout, Write};
 use std::process::ExitCode;
@@ -55,31 +55,48 @@ fn status_of(rt: &HostRuntime, writers: &mut HostWriters) -> u8 {
     run_words(rt, words.as_slice(), writers)
 }
 
-// Runs the command that the words name. The first word is the program's name.
+// Runs the call that the words denote. The first word is the program's name. Returns the status.
 fn run_words(rt: &HostRuntime, words: &[String], writers: &mut HostWriters) -> u8 {
-    let alloc = rt.alloc();
-    let Ok(command) = command(alloc) else {
-        return say(&mut writers.errors, b"out of memory", 1);
-    };
-    let matches = match command.try_get_matches_from(words) {
-        Ok(matches) => matches,
-        Err(error) => return show(rt, &error, writers),
-    };
-    let Some((name, inner)) = matches.subcommand() else {
-        return say(&mut writers.errors, b"there is no command", 2);
-    };
-    let Some(report) = report_named(name) else {
-        return say(&mut writers.errors, b"there is no such command", 2);
-    };
-    let none = [];
-    match call_of(report, inner, none.as_slice()) {
+    match read_words(rt.alloc(), words, "") {
         Ok(call) => run_checked(rt, &call, writers),
-        Err(fault) => say_made(fault.message(alloc, name), writers),
+        Err(fault) => show_fault(rt, words, &fault, writers),
     }
 }
 
-// Runs a call, unless its first file was meant for options. Returns the status.
-fn run_checked(rt: &HostRuntime, call: &Call<'_, '_>, writers: &mut HostWriters) -> u8 {
+// Writes the help, the version, or the line of a fault of the words. Returns the status.
+fn show_fault(
+    rt: &HostRuntime,
+    words: &[String],
+    fault: &WordFault<'_>,
+    writers: &mut HostWriters,
+) -> u8 {
+    match fault {
+        WordFault::Refused(error) if error.kind() == ClapKind::DisplayHelp => {
+            show_help(rt, words, writers)
+        }
+        WordFault::Refused(error) => show(rt, error, writers),
+        WordFault::OutOfMemory => say(&mut writers.errors, b"out of memory", 1),
+        _ => say_made(word_message(rt.alloc(), fault), writers),
+    }
+}
+
+// Writes the help that the words ask for. The names of options are below it, and are made for it alone. Returns the
+// status.
+fn show_help(rt: &HostRuntime, words: &[String], writers: &mut HostWriters) -> u8 {
+    let Ok(names) = names_help(rt.alloc()) else {
+        return say(&mut writers.errors, b"out of memory", 1);
+    };
+    match read_words(rt.alloc(), words, names.as_str()) {
+        Err(WordFault::Refused(error)) => show(rt, &error, writers),
+        _ => say(&mut writers.errors, b"out of memory", 1),
+    }
+}
+
+// Runs a call, unless its words name standard input twice, or its first file was meant for options. Returns the status.
+fn run_checked(rt: &HostRuntime, call: &Call<'_>, writers: &mut HostWriters) -> u8 {
+    if names_input_twice(call) {
+        return say(&mut writers.errors, b"standard input is named twice", 2);
+    }
     match misplaced(rt, call) {
         Some(word) => say_made(misplaced_message(rt.alloc(), word), writers),
         None => run_host(rt, call, writers),
@@ -99,7 +116,7 @@ fn show(rt: &HostRuntime, error: &clap::Error, writers: &mut HostWriters) -> u8 
     let Ok(text) = error.to_string(rt.alloc()) else {
         return say(&mut writers.errors, b"out of memory", 1);
     };
-    if error.kind() == clap::error::ErrorKind::OutOfMemory {
+    if error.kind() == ClapKind::OutOfMemory {
         return say(&mut writers.errors, b"out of memory", 1);
     }
     if error.use_stderr() {
@@ -121,25 +138,39 @@ fn say<E: Write>(errors: &mut E, text: &[u8], status: u8) -> u8 {
     status
 }
 
-// Runs the report that a call asks for. Returns the status.
-fn run_host(rt: &HostRuntime, call: &Call<'_, '_>, writers: &mut HostWriters) -> u8 {
-    let reports = Reports {
-        blocks: &TreeReport(BlockParser, PrintedBlocks),
-        outline: &ListedOutline,
-        links: &TreeReport(BlockParser, ListedLinks),
-        tree: &TreeReport(BlockParser, JsonTree),
-    };
+// Runs a call. Returns the status.
+fn run_host(rt: &HostRuntime, call: &Call<'_>, writers: &mut HostWriters) -> u8 {
     let shell = Shell {
         alloc: rt.alloc(),
         source: HostSource(rt),
+        clock: HostClock(rt),
+        template: VIEW.as_slice(),
     };
-    run_call(&reports, &shell, call, writers).worst
+    run_call(&shell, call, writers).worst
+}
+
+// Whether two words name standard input, of which the second would read nothing.
+fn names_input_twice(call: &Call<'_>) -> bool {
+    let mut named = match call.list {
+        Some(list) => list == "-",
+        None => false,
+    };
+    for file in call.files.as_slice() {
+        if *file != "-" {
+            continue;
+        }
+        if named {
+            return true;
+        }
+        named = true;
+    }
+    false
 }
 
 // The first file of a call, if it names options and is no file: it was meant for `--options`.
-fn misplaced<'a>(rt: &HostRuntime, call: &Call<'_, 'a>) -> Option<&'a str> {
+fn misplaced<'a>(rt: &HostRuntime, call: &Call<'a>) -> Option<&'a str> {
     let first = *call.files.first()?;
-    if first == "-" || bits_of(first).is_err() {
+    if first == "-" || add_options(Options::empty(), first).is_err() {
         return None;
     }
     match fs::exists(rt, first) {

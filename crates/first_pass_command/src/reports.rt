@@ -1,10 +1,10 @@
 //! The reports on each of several files.
 
-ghost use Rattle.first_pass_command.specs.Named.{SaysNamed, file_member, with_member};
-ghost use Rattle.first_pass_host.specs.Runs.{WritesOutput, LeavesReport};
+ghost use Rattle.first_pass_command.specs.Named.{LeavesNamed, SaysHeadings, SaysNamed, file_member, headings_line, with_member};
+ghost use Rattle.first_pass_host.specs.Runs.{WritesOutput};
 ghost use Rattle.first_pass_host.specs.Streams.{stream_between};
 ghost use Rattle.first_pass_items.specs.declared.option_set.Options.{Options as OptionSet};
-ghost use Rattle.std.specs.Prelude.{◌≡◌, ◌∷◌, ◌++◌, ℕ, List, [], if◌then◌else◌, true, IfErr, IfOk, OnOk};
+ghost use Rattle.std.specs.Prelude.{◌≡◌, ◌∷◌, ◌++◌, ℕ, ◌-◌, List, [], if◌then◌else◌, length, take, true, IfErr, IfOk, OnOk, Some};
 
 use first_pass_host::fault::RunFault;
 use first_pass_host::output::write_whole;
@@ -27,7 +27,7 @@ pub trait FileReport {
     ) -> Result<(), RunFault>
         ensures ok { OnOk result (WritesOutput (says self.now name.now) subject.entry.options
             subject.entry.text.now (stream_between (W.contents output.old) (W.contents output.new))) }
-        ensures fault { IfErr result (λ fault. LeavesReport (says self.now name.now) fault
+        ensures fault { IfErr result (λ fault. LeavesNamed (says self.now name.now) fault
             subject.entry.options subject.entry.text.now
             (stream_between (W.contents output.old) (W.contents output.new))) };
 }
@@ -67,6 +67,25 @@ impl<P: Report> FileReport for Named<'_, P> {
     }
 }
 
+/// A report that is an array of JSON and a newline, as the member `headings` of an object. Its first member is the name
+/// of the file.
+#[derive(Drop)]
+pub struct Headings<'a, P>(pub &'a P);
+
+impl<P: Report> FileReport for Headings<'_, P> {
+    ghost says = { λ report name. SaysHeadings (P.says report.0.now) name };
+
+    fn write_named<W: Write>(
+        &self,
+        name: &str,
+        subject: Subject<'_>,
+        output: &mut W,
+    ) -> Result<(), RunFault> {
+        let line = headings_line(self.0, name, subject)?;
+        write_whole(output, line.as_slice())
+    }
+}
+
 // The lines of a report on the text of a file, with the name.
 #[tactic(auto, using(crate::proofs::NamedLines::says_named))]
 fn named_lines<P: Report>(
@@ -77,15 +96,61 @@ fn named_lines<P: Report>(
     ensures { IfOk result (λ lines. SaysNamed (P.says report.now) name.now subject.entry.options
         subject.entry.text.now lines.items) }
 {
-    let mut json = Vec::new(subject.alloc);
-    let Ok(()) = report.write_report(subject, &mut json) else {
-        return Err(AllocError);
-    };
+    let json = report_bytes(report, subject)?;
     let mut member = Vec::new(subject.alloc);
     append_member(&mut member, name)?;
     let mut lines = Vec::new(subject.alloc);
     append_with_member(&mut lines, member.as_slice(), json.as_slice())?;
     Ok(lines)
+}
+
+// The line of a report on the text of a file that is an array of JSON, with the name.
+#[tactic(auto, using(crate::proofs::NamedLines::says_headings))]
+fn headings_line<P: Report>(
+    report: &P,
+    name: &str,
+    subject: Subject<'_>,
+) -> Result<Vec<u8>, AllocError>
+    ensures { IfOk result (λ line. SaysHeadings (P.says report.now) name.now subject.entry.options
+        subject.entry.text.now line.items) }
+{
+    let json = report_bytes(report, subject)?;
+    let mut line = Vec::new(subject.alloc);
+    append_headings(&mut line, name, json.as_slice())?;
+    Ok(line)
+}
+
+// The bytes of a report.
+fn report_bytes<P: Report>(report: &P, subject: Subject<'_>) -> Result<Vec<u8>, AllocError>
+    ensures { IfOk result (λ bytes. WritesOutput (P.says report.now) subject.entry.options
+        subject.entry.text.now (stream_between (Some []) (Some bytes.items))) }
+{
+    let mut bytes = Vec::new(subject.alloc);
+    match report.write_report(subject, &mut bytes) {
+        Ok(()) => Ok(bytes),
+        Err(_) => Err(AllocError),
+    }
+}
+
+// Appends the line of an array of JSON, which a newline follows, with the name of a file.
+fn append_headings(line: &mut Vec<u8>, name: &str, array: &[u8]) -> Result<(), AllocError>
+    ensures { OnOk result (line.new.items ≡ line.old.items ++ headings_line name.now array.now) }
+{
+    line.push(b'{')?;
+    append_member(line, name)?;
+    line.extend_from_slice(b"\"headings\":")?;
+    line.extend_from_slice(without_last(array))?;
+    line.extend_from_slice(b"}\n")
+}
+
+// Bytes without the last.
+fn without_last(bytes: &[u8]) -> &[u8]
+    ensures { result.now ≡ take (length bytes.now - 1) bytes.now }
+{
+    match bytes {
+        [front @ .., _] => front,
+        [] => bytes,
+    }
 }
 
 // Appends the member with the name of a file, and a comma.

@@ -2,8 +2,9 @@
 
 ghost use Rattle.std.specs.Io.{WritesAtMost};
 ghost use Rattle.std.specs.Io.KnownBytes.{WriteAppends};
-ghost use Rattle.std.specs.Prelude.{None, if◌then◌else◌, ◌≡◌};
+ghost use Rattle.std.specs.Prelude.{None, if◌then◌else◌, ◌≡◌, ◌≤◌, length};
 
+use crate::fault::hex_digit;
 use crate::writers::Closes;
 use std::io::{ErrorKind, Write};
 use std::{io, str};
@@ -81,6 +82,19 @@ impl<W: Write> Screen<W> {
         self.pass_all(bytes.get(start..).unwrap_or(&[]))
     }
 
+    // Writes the first of some bytes, which is no part of a whole character, as `<9B>`. Returns how many bytes are
+    // written.
+    fn pass_byte(&mut self, bytes: &[u8]) -> io::Result<usize>
+        ensures bound { WritesAtMost result bytes.now }
+        ensures escapes { self.new.escapes ≡ self.old.escapes }
+    {
+        let [byte, ..] = bytes else {
+            return Ok(0);
+        };
+        self.pass_all(&[b'<', hex_digit(*byte / 16), hex_digit(*byte % 16), b'>'])?;
+        Ok(1)
+    }
+
     // Writes the escape of a control character: `^[` for U+001B, `<U+009B>`.
     fn pass_control(&mut self, c: char) -> io::Result<()>
         ensures { self.new.escapes ≡ self.old.escapes }
@@ -90,10 +104,10 @@ impl<W: Write> Screen<W> {
             return self.pass_all(&[b'^', (code as u8) ^ 64]);
         }
         let digits = [
-            digit(code >> 12),
-            digit(code >> 8),
-            digit(code >> 4),
-            digit(code),
+            hex_digit(((code >> 12) % 16) as u8),
+            hex_digit(((code >> 8) % 16) as u8),
+            hex_digit(((code >> 4) % 16) as u8),
+            hex_digit((code % 16) as u8),
         ];
         self.pass_all(b"<U+")?;
         self.pass_all(&digits)?;
@@ -101,13 +115,16 @@ impl<W: Write> Screen<W> {
     }
 }
 
-// The last digit of a number, in base 16.
-fn digit(number: u32) -> u8 {
-    let low = (number % 16) as u8;
-    if low < 10 {
-        b'0' + low
-    } else {
-        b'A' + (low - 10)
+// The characters that bytes begin with, up to bytes that are none: a piece of the output may end within a character.
+fn text_front(bytes: &[u8]) -> &str
+    ensures { length result.now ≤ length bytes.now }
+{
+    match str::from_utf8(bytes) {
+        Ok(text) => text,
+        Err(error) => match str::from_utf8(&bytes[..error.valid_up_to()]) {
+            Ok(text) => text,
+            Err(_) => "",
+        },
     }
 }
 
@@ -129,13 +146,12 @@ impl<W: Write> Write for Screen<W> {
         if !self.escapes {
             return self.pass(buf);
         }
-        match str::from_utf8(buf) {
-            Ok(text) => {
-                self.pass_escaped(text)?;
-                Ok(buf.len())
-            }
-            Err(_) => self.pass(buf),
+        let text = text_front(buf);
+        if text.is_empty() {
+            return self.pass_byte(buf);
         }
+        self.pass_escaped(text)?;
+        Ok(text.len())
     }
 
     fn flush(&mut self) -> io::Result<()> {

@@ -1,1 +1,4 @@
+mod Apps
+mod CallLemmas
 mod FaultLemmas
+mod OptionLemmas

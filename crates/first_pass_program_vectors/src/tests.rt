@@ -4,6 +4,7 @@ mod bench;
 mod contents;
 mod fakes;
 mod faults;
+mod json_lines;
 mod links;
 mod outline;
 mod table_lines;

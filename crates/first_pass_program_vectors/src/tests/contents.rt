@@ -25,6 +25,12 @@ const LISTS: &[(&[&str], &str, &str)] = &[
     (&[], "### a\n# b\n### c\n## d\n", "- a\n- b\n  - c\n  - d\n"),
     // The lines of a heading, with a backslash that was dropped, and both breaks.
     (&[], "\\*a  \n  b\\\n&amp; *c*\n=\n", "- \\*a b &amp; *c*\n"),
+    // A backslash on a line of its own after an attribute block.
+    (
+        &[ATTRIBUTES],
+        "> a {#x}\n> \\\n> ===\n> b {#y}\r> \\\r> ---\n",
+        "- a  \\\n  - b  \\\n",
+    ),
     // No link: brackets, a backslash at the end, and ids that no destination has.
     (
         &[ATTRIBUTES],
@@ -40,7 +46,8 @@ const LISTS: &[(&[&str], &str, &str)] = &[
     (
         &[],
         "# - a\n# 12) a\n# --\n# > a\n# ~~~\n# # a\n# [ ] a\n# <a>\n# <a> b\n# [a] b\n# 1234567890. a\n# *a*\n",
-        "- \\- a\n- 12\\) a\n- \\--\n- \\> a\n- \\~~~\n- \\# a\n- \\[ ] a\n- \\<a>\n- <a> b\n- [a] b\n- 1234567890. a\n- *a*\n",
+        "- \\- a\n- 12\\) a\n- \\--\n- \\> a\n- \\~~~\n- \\# a\n- \\[ ] a\n- \\<a>\n- <a> b\n\
+        - [a] b\n- 1234567890. a\n- *a*\n",
     ),
     // No text: only below a text it has a comment.
     (

@@ -1,5 +1,10 @@
+use Rattle.std.proofs.Common.{◌≡◌, arith, length, nat_lt, true}
+use Rattle.std.proofs.lemmas.Bool.Decides.{nat_tests}
 use Rattle.first_pass_command.proofs.call.run_json.Goals as goal
 
--- with several files each line has the name of its file
+-- there are several files
 pub returns-in-true : goal.returns-in-true
-returns-in-true g c = rw c.in-true.is c.run_job.ensures
+returns-in-true g c =
+    let lt = c.in-true.is in
+    let many : nat_lt 1 (length c.args.files.now.names.now) ≡ true = grind (arith, nat_tests) in
+    rw many c.run_files.ensures

@@ -7,7 +7,7 @@ use Rattle.first_pass_command.proofs.run.run_all.Given as goal
 -- whatever comes of the rest of the files comes of all of them
 abbrev pub invariant-loop-rest : goal.invariant-loop-rest
 invariant-loop-rest g l =
-    let job : Setting = setting (g.P.FileReport.says l.job.report.now) (g.S.Source.holds l.job.source.now) l.job.options l.job.headed in
+    let job : Setting = setting (g.P.FileReport.says l.job.report.now) (g.S.Source.holds l.job.source.now) l.job.options l.job.headed l.job.strips in
     (new tells : Option (List ℕ)) (after : Progress)
     → RunsEach job (map (λ name. name.now) l.rest) l.progress (stream_between (g.W.Write.contents l.writers.output) new)
     (stream_between (g.E.Write.contents l.writers.errors) tells) after
