@@ -1,0 +1,7 @@
+pub mod Placed
+pub mod RunLists
+pub mod Growth
+pub mod ContentSteps
+pub mod Pieces
+pub mod ChainPieces
+pub mod WholeRanges

@@ -1,0 +1,5 @@
+pub mod Parts
+pub mod Content
+pub mod Chains
+pub mod Runs
+pub mod Building
