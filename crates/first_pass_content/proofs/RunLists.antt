@@ -229,7 +229,7 @@ module _ (bytes : List ℕ) (runs : List Run) (last : Run) (are : AreAllRuns byt
   index_inside p i before is = within_runs 0 last.place p i runs are.before (omega arith) before is
 
   -- the byte at a place of an earlier run
-  pub at_run : (p i : ℕ) (r : Run) → p < last.place → IsSplitAt runs p i → i ≤ length runs → r ≡ get_or runs i r
+  at_run : (p i : ℕ) (r : Run) → p < last.place → IsSplitAt runs p i → i ≤ length runs → r ≡ get_or runs i r
       → HasRange (byte_at whole p) r p × HasPlace r p
   at_run p i r before is inside at =
       subst (λ l. HasRange (byte_at l p) r p × HasPlace r p) (sym split)
@@ -237,3 +237,12 @@ module _ (bytes : List ℕ) (runs : List Run) (last : Run) (are : AreAllRuns byt
       subst (λ n. HasRange (byte_at (content_in bytes runs ++ run_from last last.place (slice_range bytes last.place last.past)) n) r p × HasPlace r p) from
       (in_runs bytes (run_from last last.place (slice_range bytes last.place last.past)) p r 0 last.place i runs are.before within (omega arith) before
       is inside at))
+
+  -- the run that a search for a place finds, among those before the last
+  pub found_run : (p i : ℕ) (l : List Run) (r : Run) → p < last.place → l ≡ runs
+      → (IsPartitionedBy (λ (r : Run). leb r.past p) l → IsPartitionPoint (λ (r : Run). leb r.past p ≡ true) (λ (r : Run). leb r.past p ≡ false) l i)
+      → r ≡ get_or runs i r → HasRange (byte_at whole p) r p × HasPlace r p
+  found_run p i l r before same search_in at =
+      let is = split_point 0 last.place p i runs l are.before same search_in in
+      let inside = index_inside p i before is in
+      at_run p i r before is (omega (arith, inside)) at

@@ -3,7 +3,7 @@ use Rattle.std.proofs.lemmas.Fn.{always_returns_same}
 use Rattle.std.specs.Cow.{cow_slice_items}
 use Rattle.first_pass_content.specs.Content.{ContentByte, byte_at}
 use Rattle.first_pass_content.specs.declared.run.Run.{Run}
-use Rattle.first_pass_content.proofs.RunLists.{at_last, at_run, index_inside, last_has, split_point}
+use Rattle.first_pass_content.proofs.RunLists.{at_last, found_run, index_inside, last_has, split_point}
 use Rattle.first_pass_content.proofs.content.Content.run_at.Goals as goal
 
 pub returns-then-self-place-clause-run : goal.returns-then-self-place-clause-run
@@ -49,12 +49,10 @@ returns-clause-run c =
     let bytes = cow_slice_items s.bytes in
     let p : ℕ = c.args.place in
     let i : ℕ = c.partition_point-index.result in
-    let is = split_point 0 s.last.place p i s.runs.items c.deref.result.now c.self.invariant.before c.deref.ensures.value
+    let found = found_run bytes s.runs.items s.last c.self.invariant p i c.deref.result.now c.index.result.now c.if-self-place.false c.deref.ensures.value
     (λ parts. c.partition_point-index.ensures.partitioned (λ (r : Run). leb r.past p)
-    (always_returns_same _ _ _ (λ a r f k. search (rules, of_calls))) parts) in
-    let before = c.if-self-place.false in
-    let inside = index_inside bytes s.runs.items s.last c.self.invariant p i before is in
-    let found = at_run bytes s.runs.items s.last c.self.invariant p i c.index.result.now before is (omega (arith, inside)) c.index.ensures in
+    (always_returns_same _ _ _ (λ a r f k. search (rules, of_calls))) parts)
+    c.index.ensures in
     found.1
 
 pub returns-clause-start : goal.returns-clause-start
@@ -63,12 +61,10 @@ returns-clause-start c =
     let bytes = cow_slice_items s.bytes in
     let p : ℕ = c.args.place in
     let i : ℕ = c.partition_point-index.result in
-    let is = split_point 0 s.last.place p i s.runs.items c.deref.result.now c.self.invariant.before c.deref.ensures.value
+    let found = found_run bytes s.runs.items s.last c.self.invariant p i c.deref.result.now c.index.result.now c.if-self-place.false c.deref.ensures.value
     (λ parts. c.partition_point-index.ensures.partitioned (λ (r : Run). leb r.past p)
-    (always_returns_same _ _ _ (λ a r f k. search (rules, of_calls))) parts) in
-    let before = c.if-self-place.false in
-    let inside = index_inside bytes s.runs.items s.last c.self.invariant p i before is in
-    let found = at_run bytes s.runs.items s.last c.self.invariant p i c.index.result.now before is (omega (arith, inside)) c.index.ensures in
+    (always_returns_same _ _ _ (λ a r f k. search (rules, of_calls))) parts)
+    c.index.ensures in
     sym found.0.start ∙ ap (λ (l : List ContentByte). (byte_at l p).start) c.self.view_is
 
 pub returns-clause-end : goal.returns-clause-end
@@ -77,10 +73,8 @@ returns-clause-end c =
     let bytes = cow_slice_items s.bytes in
     let p : ℕ = c.args.place in
     let i : ℕ = c.partition_point-index.result in
-    let is = split_point 0 s.last.place p i s.runs.items c.deref.result.now c.self.invariant.before c.deref.ensures.value
+    let found = found_run bytes s.runs.items s.last c.self.invariant p i c.deref.result.now c.index.result.now c.if-self-place.false c.deref.ensures.value
     (λ parts. c.partition_point-index.ensures.partitioned (λ (r : Run). leb r.past p)
-    (always_returns_same _ _ _ (λ a r f k. search (rules, of_calls))) parts) in
-    let before = c.if-self-place.false in
-    let inside = index_inside bytes s.runs.items s.last c.self.invariant p i before is in
-    let found = at_run bytes s.runs.items s.last c.self.invariant p i c.index.result.now before is (omega (arith, inside)) c.index.ensures in
+    (always_returns_same _ _ _ (λ a r f k. search (rules, of_calls))) parts)
+    c.index.ensures in
     sym found.0.«end» ∙ ap (λ (l : List ContentByte). (byte_at l p).«end») c.self.view_is
