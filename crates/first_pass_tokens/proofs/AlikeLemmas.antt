@@ -1,6 +1,6 @@
 -- A line has only one list of tokens, except for the indices of the texts that they name, and so has a cell.
-use Rattle.std.proofs.Common.{◌≡◌, ℕ, zero, suc, ◌+◌, Bool, true, false, List, ◌∷◌, length, min, Option, Some, [], refl, sym, ap, subst, ◌∙◌}
-use Rattle.std.proofs.Common.{inl, inr, option_map, true≢false, arith}
+use Rattle.std.proofs.Common.{◌≡◌, ℕ, zero, suc, ◌+◌, Bool, true, false, List, ◌∷◌, length, Option, Some, refl, sym, ap, subst, ◌∙◌, inl, inr, option_map}
+use Rattle.std.proofs.Common.{true≢false, arith, []}
 use Rattle.std.proofs.lemmas.List.{get_or_past}
 use Rattle.std.proofs.lemmas.Bool.{cases_lt, cases_Bool, cond_both}
 use Rattle.first_pass_items.specs.declared.cow_str.CowStr.{CowStr}
@@ -8,16 +8,16 @@ use Rattle.first_pass_items.specs.CowText.{text_of}
 use Rattle.first_pass_items.specs.declared.item.CowIndex.{CowIndex}
 use Rattle.first_pass_items.specs.declared.item.Item.{Item}
 use Rattle.first_pass_items.specs.declared.item.ItemBody.{ItemBody}
-use Rattle.first_pass_items.specs.declared.item.ItemBody.TheVariants.{SynthesizeText, MaybeEmphasis, MaybeMath}
+use Rattle.first_pass_items.specs.declared.item.ItemBody.TheVariants.{MaybeEmphasis}
 use Rattle.first_pass_tree.specs.Forest.{is_text}
 use Rattle.first_pass_walk.specs.Walk.{is_special}
 use Rattle.first_pass_tokens.specs.declared.pieces.TokenStart.{TokenStart}
-use Rattle.first_pass_tokens.specs.declared.pieces.TokenStart.TheVariants.{Ready, Reference, Dashes, Dollar}
+use Rattle.first_pass_tokens.specs.declared.pieces.TokenStart.TheVariants.{Ready}
 use Rattle.first_pass_tokens.specs.declared.pieces.Piece.{Piece}
-use Rattle.first_pass_tokens.specs.declared.pieces.Piece.TheVariants.{Left, Begins, Token, Run}
+use Rattle.first_pass_tokens.specs.declared.pieces.Piece.TheVariants.{Left, Token}
 use Rattle.first_pass_tokens.specs.Alike.{text_among, BodiesAlike, ItemsAlike, AreAlike}
-use Rattle.first_pass_tokens.specs.Chains.{token, run_tokens, touches, add_token, add_tokens, add_text}
-use Rattle.first_pass_tokens.specs.Braces.{MathBraces, dollar_context, braces_after}
+use Rattle.first_pass_tokens.specs.Chains.{token, run_tokens, add_token, add_tokens, add_text}
+use Rattle.first_pass_tokens.specs.Braces.{MathBraces, braces_after}
 use Rattle.first_pass_tokens.specs.NamedTexts.{NamesAmong, MakesPiece}
 use Rattle.first_pass_tokens.specs.Pieces.{Inline, found_at, special_found, special_piece, bracket_piece, size}
 use Rattle.first_pass_tokens.specs.LineTokens.{Spot, content_ends_at, ArePieces, IsInPieces, AreLineTokens, IsCell, add_piece, add_pieces}
@@ -29,8 +29,7 @@ ReadyNamesNone (Ready piece) = NamesNone piece
 ReadyNamesNone _ = Unit {0}
 
 ready_none : (text : List ℕ) (at : ℕ) (found : TokenStart) → IsFoundAt text at found → ReadyNamesNone found
-ready_none text at (Ready piece) facts = facts.1
-ready_none text at _ facts = tt
+ready_none text at found facts = grind arith
 
 -- the piece found at a place names no text if it is ready; past the text it is plain text
 pub found_none : (s : Inline) (at : ℕ) → ReadyNamesNone (found_at s at)
@@ -44,13 +43,11 @@ found_none s at =
 module _ (texts others : List CowStr) where
   -- of two kinds that are alike, both are texts or neither is
   bodies_text : (x y : ItemBody) → BodiesAlike texts others x y → is_text x ≡ is_text y
-  bodies_text (SynthesizeText ix) y h = sym (ap is_text h.1)
-  bodies_text _ y h = ap is_text h
+  bodies_text x y h = grind arith
 
   -- a kind that names no text is like itself
   bodies_same : (body : ItemBody) → names_text body ≡ false → BodiesAlike texts others body body
-  bodies_same (SynthesizeText ix) h = absurd (true≢false h)
-  bodies_same _ h = refl
+  bodies_same body h = grind (arith, true≢false)
 
   -- a token after each of two chains
   pub alike_add : (xs us : List Item) (y v : Item) → AreAlike texts others xs us → ItemsAlike texts others y v
@@ -58,13 +55,7 @@ module _ (texts others : List CowStr) where
   alike_add [] [] y v h k = (k, tt)
   alike_add [] (u ∷ us) y v h k = absurd h
   alike_add (x ∷ xs) [] y v h k = absurd h
-  alike_add (x ∷ []) (u ∷ []) y v h k =
-      let same : touches x y ≡ touches u v =
-      rw (bodies_text y.body v.body k.bodies, bodies_text x.body u.body h.0.bodies, h.0.ends, k.starts) refl in
-      elim (cases_Bool (touches x y)) [
-        | inl joins ↦ rw (joins, sym same ∙ joins) (record { starts = h.0.starts; ends = k.ends; bodies = h.0.bodies }, tt)
-        | inr apart ↦ rw (apart, sym same ∙ apart) (h.0, (k, tt))
-      ]
+  alike_add (x ∷ []) (u ∷ []) y v h k = grind (arith, bodies_text, cases_Bool)
   alike_add (x ∷ []) (u ∷ w ∷ ws) y v h k = absurd h.1
   alike_add (x ∷ z ∷ zs) (u ∷ []) y v h k = absurd h.1
   alike_add (x ∷ z ∷ zs) (u ∷ w ∷ ws) y v h k = (h.0, alike_add (z ∷ zs) (w ∷ ws) y v h.1 k)
@@ -86,30 +77,21 @@ module _ (texts others : List CowStr) where
   PiecesAlike p q = q ≡ p
 
   alike_size : (p q : Piece) → PiecesAlike p q → size q ≡ size p
-  alike_size (Token dropped n body) q h = ap size h.1
-  alike_size _ q h = ap size h
+  alike_size p q h = grind arith
 
   alike_piece : (stop at : ℕ) (p q : Piece) (xs us : List Item) → PiecesAlike p q → AreAlike texts others xs us
       → AreAlike texts others (add_piece stop at p xs) (add_piece stop at q us)
-  alike_piece stop at (Left n) q xs us h are = rw h (alike_text at (min (at + n) stop) false xs us are)
-  alike_piece stop at (Begins dropped escaped) q xs us h are = rw h (alike_text (at + dropped) (min (at + (dropped + 1)) stop) escaped xs us are)
-  alike_piece stop at (Token dropped n body) q xs us h are = grind (arith, alike_add)
-  alike_piece stop at (Run n opens closes) q xs us h are = rw h (alike_run at n opens closes xs us are)
+  alike_piece stop at p q xs us h are = grind (arith, alike_text, alike_add, alike_run)
 
   piece_same : (p : Piece) → NamesNone p → PiecesAlike p p
-  piece_same (Token dropped n body) none = (body, refl, bodies_same body none)
-  piece_same _ none = refl
+  piece_same p none = grind (arith, bodies_same)
 
   among_same : (ix iy : CowIndex) (text : List ℕ) → NamesAmong texts ix text → NamesAmong others iy text → text_among texts ix ≡ text_among others iy
   among_same ix iy text h k = ap (option_map text_of) h.1 ∙ ap (λ (t : List ℕ). Some t) (h.2 ∙ sym k.2) ∙ sym (ap (option_map text_of) k.1)
 
   pieces_alike : (b : MathBraces) (found : TokenStart) (p q : Piece) → ReadyNamesNone found → MakesPiece texts b found p → MakesPiece others b found q
       → PiecesAlike p q
-  pieces_alike b (Ready piece) p q none h k = rw (h, k) (piece_same piece none)
-  pieces_alike b (Reference n c) p q none h k = rw (h.2, k.2) (SynthesizeText k.0, refl, (k.0, refl, among_same h.0 k.0 _ h.1 k.1))
-  pieces_alike b (Dashes n) p q none h k = rw (h.2, k.2) (SynthesizeText k.0, refl, (k.0, refl, among_same h.0 k.0 _ h.1 k.1))
-  pieces_alike b (Dollar opens closes) p q none h k = rw (h, k) (piece_same (Token 0 1 (MaybeMath opens closes (dollar_context b))) refl)
-  pieces_alike b _ p q none h k = rw (h, k) refl
+  pieces_alike b found p q none h k = grind (arith, piece_same, among_same)
 
   -- a content has only one division, except for the indices
   record OneWay (s : Inline) (at : ℕ) (ps qs : List Piece) (to stop : Spot) : Type 0 where

@@ -1,14 +1,13 @@
 -- Each token of a chain has a byte, so a chain in order has at most as many tokens as bytes.
-use Rattle.std.proofs.Common.{◌≡◌, ℕ, zero, suc, ◌+◌, ◌-◌, ◌≤◌, ◌<◌, ◌&&◌, false, List, ◌∷◌, ◌++◌, length, Option, Some, None, []}
-use Rattle.std.proofs.Common.{refl, sym, ap, subst, arith, length-append}
+use Rattle.std.proofs.Common.{◌≡◌, ℕ, zero, suc, ◌+◌, ◌-◌, ◌≤◌, ◌<◌, List, ◌∷◌, ◌++◌, length, Option, refl, ap, arith, length-append, []}
 use Rattle.std.proofs.lemmas.Bool.{cases_Bool, cond_both}
 use Rattle.first_pass_items.specs.declared.cow_str.CowStr.{CowStr}
 use Rattle.first_pass_tokens.specs.Braces.{MathBraces}
 use Rattle.first_pass_items.specs.declared.item.Item.{Item}
 use Rattle.first_pass_tree.specs.declared.tree_index.TreeIndex.{TreeIndex}
-use Rattle.first_pass_tree.specs.Forest.{Forest, is_text, modify, joins_at, with_end, appended}
+use Rattle.first_pass_tree.specs.Forest.{Forest, modify, with_end, appended}
 use Rattle.first_pass_tokens.specs.Pieces.{Inline}
-use Rattle.first_pass_tokens.specs.Chains.{text_token, add_token, add_tokens, add_text, is_backslash_break, close_break, cut}
+use Rattle.first_pass_tokens.specs.Chains.{add_token, add_tokens, close_break, cut}
 use Rattle.first_pass_tokens.specs.LineTokens.{AreLineTokens, IsCell, line_end_len}
 use Rattle.first_pass_tokens.specs.TreeTokens.{with_token, with_tokens, AppendsLine, AppendsCell}
 use Rattle.first_pass_tokens.proofs.InOrder.{AreInOrder, HaveBytes}
@@ -33,11 +32,7 @@ bytes_adds chain (x ∷ xs) k h = bytes_adds (add_token chain x) xs k.1 (bytes_a
 
 -- the backslash of the break of the last line is appended, or nothing
 pub bytes_closed : (break : Option Item) (chain : List Item) → HaveBytes chain → HaveBytes (close_break break chain)
-bytes_closed None chain h = h
-bytes_closed (Some x) chain h =
-    cond_both (is_backslash_break x.body) (add_text x.start (x.start + 1) false chain) chain HaveBytes
-    (λ b. subst HaveBytes (sym (add_text-some x.start (x.start + 1) false chain (omega arith)))
-    (bytes_add chain (text_token x.start (x.start + 1) false) (omega arith) h)) (λ b. h)
+bytes_closed break chain h = grind (arith, cond_both, add_text-some, bytes_add)
 
 -- another chain is appended
 pub bytes_append : (xs ys : List Item) → HaveBytes xs → HaveBytes ys → HaveBytes (xs ++ ys)
@@ -72,15 +67,10 @@ length-modify (n ∷ nodes) zero g = refl
 length-modify (n ∷ nodes) (suc i) g = ap suc (length-modify nodes i g)
 
 few_ended : (f : Forest Item) (e : ℕ) (c : Option TreeIndex) → length (with_end f e c).nodes ≤ length f.nodes + 1
-few_ended f e None = omega arith
-few_ended f e (Some c) = (let same = length-modify f.nodes c.0 (λ (x : Item). record x { «end» = e }) in omega arith)
+few_ended f e c = grind (arith, length-modify)
 
 few_token : (f : Forest Item) (x : Item) → length (with_token f x).nodes ≤ length f.nodes + 1
-few_token f x =
-    let more = length-append f.nodes ((length f.spine + 1, x) ∷ []) in
-    cond_both (is_text x.body && joins_at f x.start f.current) (with_end f x.«end» f.current) (appended f x)
-    (λ (g : Forest Item). length g.nodes ≤ length f.nodes + 1)
-    (λ b. few_ended f x.«end» f.current) (λ b. omega arith)
+few_token f x = grind (arith, length-append, cond_both, few_ended)
 
 few_tokens : (f : Forest Item) (tokens : List Item) → length (with_tokens f tokens).nodes ≤ length f.nodes + length tokens
 few_tokens f [] = omega arith

@@ -1,5 +1,5 @@
 -- Each pipe in the content of a cell is directly after a backslash.
-use Rattle.std.proofs.Common.{◌≡◌, ℕ, ◌+◌, ◌-◌, ◌≤◌, ◌<◌, true, false, List, [], ◌∷◌, slice_index, ap, inl, inr, arith, ◌==◌}
+use Rattle.std.proofs.Common.{◌≡◌, ℕ, ◌+◌, ◌-◌, ◌≤◌, ◌<◌, true, false, List, ◌∷◌, slice_index, ap, inl, inr, arith, ◌==◌, []}
 use Rattle.std.proofs.lemmas.Bool.{cases_lt, false≢true}
 use Rattle.first_pass_items.specs.Bytes.{backslash, pipe}
 use Rattle.first_pass_items.specs.OptionWords.{has, tables}
@@ -7,7 +7,6 @@ use Rattle.first_pass_items.specs.declared.cow_str.CowStr.{CowStr}
 use Rattle.first_pass_tokens.specs.Braces.{MathBraces, braces_after}
 use Rattle.first_pass_items.specs.declared.item.Item.{Item}
 use Rattle.first_pass_tokens.specs.declared.pieces.Piece.{Piece}
-use Rattle.first_pass_tokens.specs.declared.pieces.Piece.TheVariants.{Left, Begins, Token, Run}
 use Rattle.first_pass_tokens.specs.Pieces.{Inline, found_at, size}
 use Rattle.first_pass_tokens.specs.NamedTexts.{MakesPiece}
 use Rattle.first_pass_tokens.specs.LineTokens.{Spot, spot, content_ends_at, ArePieces, IsCell}
@@ -18,10 +17,7 @@ use Rattle.first_pass_tokens.proofs.LineLemmas.{piece_of, not_ended_pipe}
 -- a pipe in a piece, after the first byte of the piece
 pipe_inside : (text : List ℕ) (at : ℕ) (p : Piece) (k : ℕ) → IsPieceAt text at p → (slice_index text at == pipe) ≡ false → at < k → k < at + size p
     → slice_index text k ≡ pipe → slice_index text (k - 1) ≡ backslash
-pipe_inside text at (Left n) k facts other low high is_pipe = grind (arith, false≢true)
-pipe_inside text at (Run n opens closes) k facts other low high is_pipe = grind (arith, false≢true, mark_facts)
-pipe_inside text at (Begins dropped escaped) k facts other low high is_pipe = grind (arith, cases_lt)
-pipe_inside text at (Token dropped n body) k facts other low high is_pipe = grind (arith, mark_facts, false≢true)
+pipe_inside text at p k facts other low high is_pipe = grind (arith, false≢true, mark_facts, cases_lt)
 
 module _ (s : Inline) (row : s.row ≡ true) (on : has s.options tables ≡ true) where
   pipe_in : (texts : List CowStr) (b : MathBraces) (at : ℕ) (p : Piece)

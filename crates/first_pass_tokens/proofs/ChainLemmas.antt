@@ -1,7 +1,7 @@
 -- Chains and trees: the token that is added or joined, the chain after a cut, and the block that a chain closes to.
-use Rattle.std.proofs.Common.{ℕ, suc, zero, ◌≡◌, ◌+◌, ◌≤◌, ◌<◌, ◌==◌, ◌&&◌, Bool, true, false, List, ◌∷◌, ◌++◌, length, take, Option, Some, None, []}
-use Rattle.std.proofs.Common.{nat_lt, slice_get, slice_index, refl, sym, ap, ◌∙◌, inl, inr, arith, length-append, append_assoc, option_map, append-nil}
-use Rattle.std.proofs.Common.{lt-ltb, le-ltb, ltb-true, ltb-false, eq-eqb, eqb-true, ne_eqb}
+use Rattle.std.proofs.Common.{ℕ, suc, zero, ◌≡◌, ◌+◌, ◌≤◌, ◌<◌, ◌==◌, ◌&&◌, Bool, true, false, List, ◌∷◌, ◌++◌, length, take, Option, Some, None, nat_lt}
+use Rattle.std.proofs.Common.{slice_get, slice_index, refl, sym, ap, ◌∙◌, inl, inr, arith, length-append, append_assoc, option_map, append-nil, lt-ltb, le-ltb}
+use Rattle.std.proofs.Common.{ltb-true, ltb-false, eq-eqb, ne_eqb, []}
 use Rattle.std.proofs.Math.Seq.{take-append_seam, drop-append_seam}
 use Rattle.std.proofs.lemmas.Bool.{cond-true, cond-false, cond_both, cases_Bool, cases_lt, and_parts, and_from, and_left, and_right, false≢true}
 use Rattle.first_pass_items.specs.declared.item.Item.{Item}
@@ -31,17 +31,12 @@ pub add_token-by : (R : List Item → List Item → Type 0) (y : Item) → R [] 
     → ((x : Item) → touches x y ≡ true → is_text x.body ≡ true → is_text y.body ≡ true → x.«end» ≡ y.start → R (x ∷ []) (record x { «end» = y.«end» } ∷ []))
     → ((x : Item) (xs ys : List Item) → R xs ys → R (x ∷ xs) (x ∷ ys)) → (chain : List Item) → R chain (add_token chain y)
 add_token-by R y none joined more [] = none
-add_token-by R y none joined more (x ∷ []) =
-    cond_both (touches x y) (record x { «end» = y.«end» } ∷ []) (x ∷ y ∷ []) (R (x ∷ []))
-    (λ b. let (second, rest) = and_parts (is_text y.body) (is_text x.body && (x.«end» == y.start)) b in
-    let (first, place) = and_parts (is_text x.body) (x.«end» == y.start) rest in joined x b first second (eqb-true x.«end» y.start place))
-    (λ b. more x [] (y ∷ []) none)
+add_token-by R y none joined more (x ∷ []) = grind (arith, cond_both, and_parts)
 add_token-by R y none joined more (x ∷ z ∷ zs) = more x (z ∷ zs) (add_token (z ∷ zs) y) (add_token-by R y none joined more (z ∷ zs))
 
 -- the first token of a chain stays at its place
 add_token-cons : (x z : Item) (zs : List Item) (t u : Item) → add_token (x ∷ add_token (z ∷ zs) t) u ≡ x ∷ add_token (add_token (z ∷ zs) t) u
-add_token-cons x z [] t u = cond_both (touches z t) _ _ (λ (ys : List Item). add_token (x ∷ ys) u ≡ x ∷ add_token ys u) (λ b. refl) (λ b. refl)
-add_token-cons x z (w ∷ ws) t u = refl
+add_token-cons x z zs t u = grind (arith, cond_both)
 
 -- a text lengthened by the one after it
 add_token-longer : (x : Item) (at to : ℕ)
@@ -77,9 +72,7 @@ add_token-following (p ∷ q ∷ qs) x y apart = ap (λ (ys : List Item). p ∷ 
 
 add_tokens-following : (front : List Item) (x : Item) (xs : List Item) → AreApart (x ∷ xs) → add_tokens (front ++ x ∷ []) xs ≡ front ++ x ∷ xs
 add_tokens-following front x [] h = refl
-add_tokens-following front x (y ∷ ys) h =
-    ap (λ (chain : List Item). add_tokens chain ys) (add_token-following front x y h.0) ∙ add_tokens-following (front ++ x ∷ []) y ys h.1
-    ∙ append_assoc front (x ∷ []) (y ∷ ys)
+add_tokens-following front x (y ∷ ys) h = grind (arith, add_token-following, append_assoc, add_tokens-following (front ++ x ∷ []) y ys h.1)
 
 -- tokens of which none touches the one before it, appended to the empty chain
 pub add_tokens-none : (tokens : List Item) → AreApart tokens → add_tokens [] tokens ≡ tokens
@@ -106,8 +99,7 @@ item_modified (n ∷ ns) (suc i) g = item_modified ns i g
 -- a text with another end
 ends_moved : (at e next : ℕ) (o : Option Item)
     → ends_text_at at o ≡ true → (e == next) ≡ true → ends_text_at next (option_map {T = Item} (λ x. record x { «end» = e }) o) ≡ true
-ends_moved at e next None h same = absurd (false≢true h)
-ends_moved at e next (Some x) h same = and_from _ _ (and_parts _ _ h).0 same
+ends_moved at e next o h same = grind (arith, false≢true, and_from, and_parts)
 
 pub slice_get-following : {X : Type 0} (xs : List X) (y : X) → slice_get (xs ++ y ∷ []) (length xs) ≡ Some y
 slice_get-following [] y = refl
@@ -186,8 +178,7 @@ with_token-chained f (y ∷ ys) x none = with_token-following f y ys x
 pub with_tokens-chained : (f : Forest Item) (chain tokens : List Item)
     → JoinsNone f → with_tokens (chained f chain) tokens ≡ chained f (add_tokens chain tokens)
 with_tokens-chained f chain [] none = refl
-with_tokens-chained f chain (x ∷ xs) none =
-    ap (λ (g : Forest Item). with_tokens g xs) (with_token-chained f chain x none) ∙ with_tokens-chained f (add_token chain x) xs none
+with_tokens-chained f chain (x ∷ xs) none = grind (arith, with_token-chained, with_tokens-chained f (add_token chain x) xs none)
 
 pub with_text-chained : (f : Forest Item) (chain : List Item) (s e : ℕ) (b : Bool)
     → JoinsNone f → s ≤ e → with_text (chained f chain) s e b ≡ chained f (add_text s e b chain)
@@ -210,18 +201,14 @@ chained-spine f (x ∷ xs) = chained-spine (appended f x) xs
 
 pub chained-nodes : (f : Forest Item) (chain : List Item) → (chained f chain).nodes ≡ f.nodes ++ at_depth (length f.spine + 1) (leaves chain)
 chained-nodes f [] = sym (append-nil f.nodes)
-chained-nodes f (x ∷ xs) =
-    let d = length f.spine + 1 in
-    let z : d ≡ d + 0 = omega arith in
-    chained-nodes (appended f x) xs ∙ append_assoc f.nodes ((d, x) ∷ []) (at_depth d (leaves xs)) ∙ ap (λ (k : ℕ). f.nodes ++ (k, x) ∷ at_depth d (leaves xs)) z
+chained-nodes f (x ∷ xs) = grind (arith, append_assoc, chained-nodes (appended f x) xs)
 
 pub length-leaves : (d : ℕ) (chain : List Item) → length (at_depth d (leaves chain)) ≡ length chain
 length-leaves d [] = refl
 length-leaves d (x ∷ xs) = ap suc (length-leaves d xs)
 
 pub chained-length : (f : Forest Item) (chain : List Item) → length (chained f chain).nodes ≡ length f.nodes + length chain
-chained-length f chain = ap length (chained-nodes f chain) ∙ length-append f.nodes (at_depth (length f.spine + 1) (leaves chain))
-    ∙ ap (λ (n : ℕ). length f.nodes + n) (length-leaves (length f.spine + 1) chain)
+chained-length f chain = grind (arith, chained-nodes, length-append, length-leaves)
 
 abbrev place_at : ℕ → TreeIndex
 place_at m = record { 0 = m }
@@ -229,10 +216,7 @@ place_at m = record { 0 = m }
 -- the last item of a chain is current
 pub chained-current : (f : Forest Item) (x : Item) (xs : List Item) → (chained f (x ∷ xs)).current ≡ Some (record { 0 = length f.nodes + length xs })
 chained-current f x [] = grind arith
-chained-current f x (y ∷ ys) =
-    let l = length-append f.nodes ((length f.spine + 1, x) ∷ []) in
-    let z : length (appended f x).nodes + length ys ≡ length f.nodes + suc (length ys) = omega arith in
-    chained-current (appended f x) y ys ∙ ap (λ (m : ℕ). Some (place_at m)) z
+chained-current f x (y ∷ ys) = grind (arith, length-append, chained-current (appended f x) y ys)
 
 -- after a node that was just opened there are no nodes, and none of its children is current
 pub pushed-fresh : (g : Forest Item) (x : Item) (ix : TreeIndex) → ix.0 ≡ length g.nodes

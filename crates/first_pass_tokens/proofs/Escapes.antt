@@ -1,7 +1,7 @@
 -- Each escaped text of a chain is directly after a backslash that no token has, so a chain may be cut at any offset
 -- between two characters.
-use Rattle.std.proofs.Common.{◌≡◌, ℕ, ◌+◌, ◌-◌, ◌≤◌, ◌<◌, ◌==◌, ◌&&◌, true, false, List, [], ◌∷◌, ◌++◌, slice_index, Option, Some, None}
-use Rattle.std.proofs.Common.{IsCharBoundary, nat_lt, if◌then◌else◌, inl, inr, refl, sym, subst, ◌∙◌, arith, lt-ltb, le-ltb, eqb-true}
+use Rattle.std.proofs.Common.{◌≡◌, ℕ, ◌+◌, ◌-◌, ◌≤◌, ◌<◌, ◌==◌, ◌&&◌, true, false, List, ◌∷◌, ◌++◌, slice_index, Option, IsCharBoundary, nat_lt, if◌then◌else◌}
+use Rattle.std.proofs.Common.{inl, inr, refl, sym, subst, ◌∙◌, arith, lt-ltb, le-ltb, eqb-true, []}
 use Rattle.std.proofs.lemmas.Bool.{cond-false, cond_both, cases_lt, and_parts, and_right, false≢true}
 use Rattle.first_pass_items.specs.Bytes.{backslash}
 use Rattle.first_pass_items.specs.declared.cow_str.CowStr.{CowStr}
@@ -9,7 +9,7 @@ use Rattle.first_pass_tokens.specs.Braces.{MathBraces}
 use Rattle.first_pass_items.specs.declared.item.Item.{Item}
 use Rattle.first_pass_tree.specs.Forest.{is_escaped}
 use Rattle.first_pass_tokens.specs.Pieces.{Inline}
-use Rattle.first_pass_tokens.specs.Chains.{text_token, add_token, add_tokens, add_text, is_backslash_break, close_break, cut}
+use Rattle.first_pass_tokens.specs.Chains.{text_token, add_token, add_tokens, close_break, cut}
 use Rattle.first_pass_tokens.specs.LineTokens.{AreLineTokens}
 use Rattle.first_pass_tokens.proofs.InOrder.{AreInOrder, HaveBytes}
 use Rattle.first_pass_tokens.proofs.ChainLemmas.{add_text-some, add_token-by}
@@ -62,11 +62,7 @@ escapes_adds text from mid to chain (x ∷ xs) h k order stand =
 -- the backslash at the end of the last line of a block
 pub escapes_closed : (text : List ℕ) (from to : ℕ) (break : Option Item) (chain : List Item) → AreInOrder text from to chain → EscapesStand text from chain
     → EscapesStand text from (close_break break chain)
-escapes_closed text from to None chain h k = k
-escapes_closed text from to (Some x) chain h k =
-    cond_both (is_backslash_break x.body) (add_text x.start (x.start + 1) false chain) chain (EscapesStand text from)
-    (λ b. subst (EscapesStand text from) (sym (add_text-some x.start (x.start + 1) false chain (omega arith)))
-    (escapes_add text from to chain (text_token x.start (x.start + 1) false) (ends_in_order text from to chain h) k (λ e. absurd (false≢true e)))) (λ b. k)
+escapes_closed text from to break chain h k = grind (arith, cond_both, add_text-some, escapes_add, ends_in_order, false≢true)
 
 -- an item that is no escaped text is appended
 pub escapes_append : (text : List ℕ) (from : ℕ) (chain : List Item) (y : Item)

@@ -1,8 +1,8 @@
 -- The division of a content: one more piece, its uniqueness, that it has no line ending, and the end of the line.
-use Rattle.std.proofs.Common.{ℕ, min, zero, suc, ◌≡◌, ◌⊎◌, ◌+◌, ◌-◌, ◌≤◌, ◌<◌, ◌==◌, ◌&&◌, ◌%◌, if◌then◌else◌, Bool, true, false, List, ◌∷◌, ◌++◌, [], length}
-use Rattle.std.proofs.Common.{reverse, drop, get_or, slice_index, nat_lt, nat_le, Option, None, IfSome, Result, Ok, Err, IfOk, unwrap_or, refl, sym, ap}
-use Rattle.std.proofs.Common.{subst, ◌∙◌, inl, inr, arith, length-drop, length-take, slice_range, get_or-drop, get_or-take, drop-drop, eqb-true, le-leb}
-use Rattle.std.proofs.Common.{leb-false, leb-true, ltb-true}
+use Rattle.std.proofs.Common.{ℕ, min, zero, suc, ◌≡◌, ◌⊎◌, ◌+◌, ◌-◌, ◌≤◌, ◌<◌, ◌==◌, ◌&&◌, ◌%◌, if◌then◌else◌, Bool, true, false, List, ◌∷◌, ◌++◌, length}
+use Rattle.std.proofs.Common.{reverse, drop, get_or, slice_index, nat_lt, nat_le, Option, None, IfSome, Result, Ok, Err, IfOk, unwrap_or, refl, sym, ap, subst}
+use Rattle.std.proofs.Common.{◌∙◌, inl, inr, arith, length-drop, length-take, slice_range, get_or-drop, get_or-take, drop-drop, eqb-true, le-leb, leb-false}
+use Rattle.std.proofs.Common.{leb-true, ltb-true, []}
 use Rattle.std.specs.List.{suffix_len, prefix_len}
 use Rattle.std.specs.declared.alloc.AllocError.{AllocError}
 use Rattle.std.proofs.lemmas.List.{get_or-reverse, get_or_past, at_drop_all, at_drop_more}
@@ -38,8 +38,7 @@ pub are_more : (texts : List CowStr) (s : Inline) (at : ℕ) (b : MathBraces) (p
     → content_ends_at s mid.at ≡ false → MakesPiece texts mid.braces (found_at s mid.at) q
     → ArePieces texts s at b (ps ++ q ∷ []) (spot (mid.at + size q) (braces_after (found_at s mid.at) mid.braces))
 are_more texts s at b [] mid q same on is = grind arith
-are_more texts s at b (p ∷ ps) mid q h on is =
-    (h.0, h.1, are_more texts s (at + size p) (braces_after (found_at s at) b) ps mid q h.2 on is)
+are_more texts s at b (p ∷ ps) mid q h on is = grind (arith, are_more texts s (at + size p) (braces_after (found_at s at) b) ps mid q h.2 on is)
 
 pub add_pieces_more : (texts : List CowStr) (s : Inline) (stop at : ℕ) (b : MathBraces) (ps : List Piece) (mid : Spot) (chain : List Item) (p : Piece)
     → ArePieces texts s at b ps mid → add_pieces stop at (ps ++ p ∷ []) chain ≡ add_piece stop mid.at p (add_pieces stop at ps chain)
@@ -220,17 +219,7 @@ break_in_line s end order within =
 -- the end of a line
 pub ends_line : {texts : List CowStr} {s : Inline} {tokens : List Item} {answer : ℕ × Option Item} {after : MathBraces}
     → s.start ≤ length s.text → AreLineTokens texts s tokens answer after → EndsLine s answer
-ends_line {texts} {s} {tokens} {answer} {after} within line =
-    let end = line.content_end in
-    let c = content_of within line.division in
-    let place = line_place s end line.no_cell c line.division.ended in
-    subst (λ (a : ℕ × Option Item). EndsLine s a) (sym line.answer_is) (record {
-      within = omega (arith, place, line_len-fits (drop s.start s.text), length-drop s.start s.text);
-      from = omega (arith, place);
-      later = λ some. omega (arith, place, (line_len-within s.text s.start some).0);
-      place = place;
-      broken = break_in_line s end c.order c.within;
-    })
+ends_line {texts} {s} {tokens} {answer} {after} within line = grind (arith, content_of, line_place, line_len-fits, length-drop, line_len-within, break_in_line)
 
 -- the same for the result of a call
 pub ends_line-if : (texts : List CowStr) (after : MathBraces) (s : Inline) (old new : Forest Item) (r : Result (ℕ × Option Item) AllocError)

@@ -3,7 +3,6 @@ use Rattle.std.proofs.Common.{◌≡◌, ℕ, true, List, inl, inr, arith}
 use Rattle.std.proofs.lemmas.Bool.{cases_lt, false≢true}
 use Rattle.first_pass_items.specs.declared.item.Item.{Item}
 use Rattle.first_pass_items.specs.declared.item.ItemBody.{ItemBody}
-use Rattle.first_pass_items.specs.declared.item.ItemBody.TheVariants.{Text}
 use Rattle.first_pass_tree.specs.Forest.{is_text}
 use Rattle.first_pass_tokens.specs.MarkupBytes.{StandsOver, StandOver, HasNoBackquote, TextsHaveNoBackquote}
 use Rattle.first_pass_tokens.specs.Chains.{add_token}
@@ -11,8 +10,7 @@ use Rattle.first_pass_tokens.proofs.ChainLemmas.{add_token-by}
 
 -- a text is no markup, whatever its range
 text_over : (text : List ℕ) (start end : ℕ) (body : ItemBody) → is_text body ≡ true → StandsOver text start end body
-text_over text start end (Text escaped) h = tt
-text_over text start end _ h = absurd (false≢true h)
+text_over text start end body h = grind (arith, false≢true)
 
 -- a token is appended
 pub over_add : (text : List ℕ) (chain : List Item) (y : Item) → StandsOver text y.start y.«end» y.body → StandOver text chain

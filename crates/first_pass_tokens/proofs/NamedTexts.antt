@@ -1,6 +1,6 @@
 -- Texts that tokens name stay named while more are appended, and each token of a line names one of them, if it names
 -- a text.
-use Rattle.std.proofs.Common.{◌≡◌, ℕ, zero, suc, ◌+◌, List, ◌∷◌, ◌++◌, length, slice_get, Option, Some, sym, ap, ◌∙◌, append_assoc, [], append-nil, arith}
+use Rattle.std.proofs.Common.{◌≡◌, ℕ, zero, suc, ◌+◌, List, ◌∷◌, ◌++◌, length, slice_get, Option, Some, sym, ap, ◌∙◌, append_assoc, append-nil, arith, []}
 use Rattle.first_pass_items.specs.declared.cow_str.CowStr.{CowStr}
 use Rattle.first_pass_tokens.specs.Braces.{MathBraces, braces_after}
 use Rattle.first_pass_items.specs.declared.item.CowIndex.{CowIndex}
@@ -39,11 +39,7 @@ becomes_more new old b _ p more is = is
 pub pieces_more : (new old : List CowStr) (s : Inline) (at : ℕ) (b : MathBraces) (ps : List Piece) (to : Spot) → AreMore new old → ArePieces old s at b ps to
     → ArePieces new s at b ps to
 pieces_more new old s at b [] to more h = h
-pieces_more new old s at b (p ∷ ps) to more h = (
-  h.0,
-  becomes_more new old b (found_at s at) p more h.1,
-  pieces_more new old s (at + size p) (braces_after (found_at s at) b) ps to more h.2,
-)
+pieces_more new old s at b (p ∷ ps) to more h = grind (arith, becomes_more, pieces_more new old s (at + size p) (braces_after (found_at s at) b) ps to more h.2)
 
 division_more : {new old : List CowStr} {s : Inline} {ps : List Piece} {to : Spot} → AreMore new old → IsInPieces old s ps to → IsInPieces new s ps to
 division_more {new} {old} {s} {ps} {to} more d = record { divided = pieces_more new old s s.start s.braces ps to more d.divided; ended = d.ended }

@@ -1,5 +1,5 @@
 -- A pipe that ends no cell is plain text, and so is a letter, digit or hyphen before it.
-use Rattle.std.proofs.Common.{◌≡◌, ℕ, ◌+◌, ◌<◌, ◌≤◌, ◌==◌, true, false, List, length, refl, inl, inr, ap, arith, slice_index, eqb-true}
+use Rattle.std.proofs.Common.{◌≡◌, ℕ, ◌+◌, ◌<◌, ◌≤◌, ◌==◌, true, false, List, length, inl, inr, arith, slice_index}
 use Rattle.std.specs.Char.{is_ascii_alphanumeric}
 use Rattle.std.proofs.lemmas.Bool.{cases_lt, lt-leb, and_from, and_parts, or_cases, or_from, or_parts, or_left, or_right, cond_both}
 use Rattle.std.proofs.lemmas.Bool.Decides.{nat_tests}
@@ -30,9 +30,7 @@ pipe_piece z at is = grind (arith, cond_both)
 hyphen_piece : (z : Inline) (at : ℕ) → at < length z.text → slice_index z.text at ≡ hyphen → (slice_index z.text (at + 1) == hyphen) ≡ false
     → found_at z at ≡ Ready (Left 1)
 unfolding found_at
-hyphen_piece z at within here other =
-    cond_both (is_special z.options (slice_index z.text at)) (special_found z at) (Ready (Left 1)) (λ f. f ≡ Ready (Left 1))
-    (λ h. hyphen_ready z at within here other) (λ h. refl)
+hyphen_piece z at within here other = grind (arith, cond_both, hyphen_ready)
 
 -- a letter or digit is not special
 word_plain : (z : Inline) (at : ℕ) → is_ascii_alphanumeric (slice_index z.text at) ≡ true → is_special z.options (slice_index z.text at) ≡ false
@@ -53,19 +51,9 @@ pipe_inside z at k on is within here = grind (arith, or_parts, or_from, lt-leb)
 -- a letter, digit or hyphen before a pipe is plain text
 before_pipe : (z : Inline) (at : ℕ) → at < length z.text → is_word_or_hyphen (slice_index z.text at) ≡ true
     → (slice_index z.text (at + 1) == pipe) ≡ true → IsPlain z at
-before_pipe z at within word next =
-    elim (or_cases (is_ascii_alphanumeric (slice_index z.text at)) _ word) [
-      | inl letter ↦ inl (word_plain z at letter)
-      | inr dash ↦
-          let here = eqb-true _ _ dash in
-          inr (hyphen_inside z at within here, hyphen_piece z at within here (ap (λ b. b == hyphen) (eqb-true _ _ next)))
-    ]
+before_pipe z at within word next = grind (arith, or_cases, word_plain, hyphen_inside, hyphen_piece)
 
 -- the bytes near pipes are plain text, if no cell ends at a pipe
 pub near_pipes : (z : Inline) (at : ℕ) → content_ends_at z at ≡ false → slice_index z.text at ≡ pipe
     → (k : ℕ) → k < length z.text → is_near_pipe z.text k ≡ true → IsPlain z k
-near_pipes z at on is k within near =
-    elim (or_cases (slice_index z.text k == pipe) _ near) [
-      | inl pipe_here ↦ let here = eqb-true _ _ pipe_here in inr (pipe_inside z at k on is within here, pipe_piece z k here)
-      | inr later ↦ let (word, next) = and_parts (is_word_or_hyphen (slice_index z.text k)) _ later in before_pipe z k within word next
-    ]
+near_pipes z at on is k within near = grind (arith, or_cases, pipe_inside, pipe_piece, and_parts, before_pipe)

@@ -1,8 +1,8 @@
 -- Tokens, one after the other: a chain in order stays in order if a token is appended, and the tokens of a line or a
 -- cell are in order.
-use Rattle.std.proofs.Common.{ℕ, zero, suc, ◌≡◌, ◌⊎◌, ◌+◌, ◌-◌, ◌≤◌, ◌<◌, ◌==◌, min, Bool, true, false, List, ◌∷◌, ◌++◌, length, take, get_or, []}
-use Rattle.std.proofs.Common.{slice_index, nat_lt, Option, Some, None, IfSome, IsUtf8, IsCharBoundary, refl, sym, ap, subst, ◌∙◌, inl, inr, arith}
-use Rattle.std.proofs.Common.{drop, slice_range, length-drop, length-take, get_or-take, eqb-true}
+use Rattle.std.proofs.Common.{ℕ, zero, suc, ◌≡◌, ◌⊎◌, ◌+◌, ◌-◌, ◌≤◌, ◌<◌, ◌==◌, min, Bool, true, false, List, ◌∷◌, ◌++◌, length, take, get_or, slice_index}
+use Rattle.std.proofs.Common.{nat_lt, Option, Some, None, IfSome, IsUtf8, IsCharBoundary, refl, sym, ap, subst, inl, inr, arith, drop, slice_range, length-drop}
+use Rattle.std.proofs.Common.{length-take, get_or-take, eqb-true, []}
 use Rattle.std.specs.List.{suffix_len}
 use Rattle.std.proofs.lemmas.List.Sums.{suffix_len-le-length}
 use Rattle.std.proofs.lemmas.Str.{IsCharBoundary-after_ascii, IsCharBoundary-before_ascii, IsCharBoundary-end}
@@ -12,7 +12,7 @@ use Rattle.first_pass_items.specs.Bytes.{backslash, ascii_end}
 use Rattle.first_pass_items.specs.declared.cow_str.CowStr.{CowStr}
 use Rattle.first_pass_tokens.specs.Braces.{MathBraces, braces_after}
 use Rattle.first_pass_items.specs.declared.item.Item.{Item}
-use Rattle.first_pass_lines.specs.Lines.{is_line_end, is_white, is_white_or_line_end, line_len}
+use Rattle.first_pass_lines.specs.Lines.{is_line_end, is_white_or_line_end, line_len}
 use Rattle.first_pass_lines.proofs.LineFacts.{line_len-fits}
 use Rattle.first_pass_lines.proofs.PlaceFacts.{line_end_boundary}
 use Rattle.first_pass_tokens.specs.declared.pieces.Piece.{Piece}
@@ -83,9 +83,7 @@ module _ (s : Inline) (utf8 : IsUtf8 s.text) where
   place_before at h = IsCharBoundary-before_ascii s.text at (at_byte s.text at (omega (arith, h.0))) (omega (arith, h.1))
 
   place_past : (at : ℕ) → 0 < at → IsVisible (slice_index s.text (at - 1)) → IsCharBoundary s.text at
-  place_past at some h =
-      let same : at - 1 + 1 ≡ at = omega arith in
-      subst (IsCharBoundary s.text) same (IsCharBoundary-after_ascii s.text (at - 1) utf8 (at_byte s.text (at - 1) (omega (arith, h.0))) (omega (arith, h.1)))
+  place_past at some h = grind (arith, IsCharBoundary-after_ascii, at_byte)
 
   -- the tokens of a run
   run_in_order : (at n : ℕ) (opens closes : Bool) → Each IsMark s.text at n → AreInOrder s.text at (at + n) (run_tokens at n opens closes)
@@ -156,11 +154,7 @@ module _ (s : Inline) (utf8 : IsUtf8 s.text) where
 -- the first of the bytes that pass a test at the end of the first bytes of a list
 pub suffix_first : (p : ℕ → Bool) (xs : List ℕ) (n : ℕ)
     → n ≤ length xs → 0 < suffix_len p (take n xs) → (suffix_len p (take n xs) ≤ n) × (p (get_or xs (n - suffix_len p (take n xs)) 0) ≡ true)
-suffix_first p xs n within some =
-    let size = length-take n xs in
-    let short = suffix_len-le-length p (take n xs) in
-    let k : ℕ = n - suffix_len p (take n xs) in
-    (omega arith, ap p (sym (get_or-take n xs k 0 (omega arith))) ∙ last_passes p (take n xs) k (omega arith) (omega arith))
+suffix_first p xs n within some = grind (arith, length-take, suffix_len-le-length, get_or-take, last_passes)
 
 -- a place between two characters, in the content from an offset on
 abbrev IsPlaceFrom : List ℕ → ℕ → ℕ → Type 0
@@ -169,15 +163,7 @@ IsPlaceFrom text start at = (start ≤ at) × IsCharBoundary text at
 -- if only ASCII bytes pass a test, a content ends between two characters also without the bytes at its end that pass
 suffix_place : (p : ℕ → Bool) → ((b : ℕ) → p b ≡ true → b < ascii_end) → (text : List ℕ) (start end : ℕ) → start ≤ end → end ≤ length text
     → IsCharBoundary text end → IsPlaceFrom text start (end - suffix_len p (slice_range text start end))
-suffix_place p small text start end order within boundary =
-    let n : ℕ = suffix_len p (slice_range text start end) in
-    let short : n ≤ end - start = end_bounded p text start start end (omega arith) order within (inl refl) in
-    elim (cases_lt 0 n) [
-      | inl some ↦
-          let first = content_passes p text start end (end - n) order (omega arith) (omega arith) (omega arith) in
-          (omega arith, IsCharBoundary-before_ascii text (end - n) (omega arith) (small _ first))
-      | inr none ↦ let whole : end ≡ end - n = omega arith in subst (IsPlaceFrom text start) whole (order, boundary)
-    ]
+suffix_place p small text start end order within boundary = grind (arith, end_bounded, cases_lt, content_passes, IsCharBoundary-before_ascii)
 
 -- The end of a line without the white space there is between characters.
 pub trimmed_boundary : (text : List ℕ) (from : ℕ) → IsUtf8 text → IsCharBoundary text from
@@ -220,8 +206,7 @@ backslash_place s end order within breaks =
 blanks_place : (s : Inline) (end : ℕ)
     → s.start ≤ end → end ≤ length s.text → IsCharBoundary s.text end → IsPlaceFrom s.text s.start (end - blanks_at_end s end)
 unfolding blanks_at_end
-blanks_place s end order within boundary =
-    suffix_place is_white (λ b h. grind (arith, nat_tests, h)) s.text s.start end order within boundary
+blanks_place s end order within boundary = grind (arith, suffix_place, nat_tests)
 
 -- the end of the last text of a content
 text_end_place : (s : Inline) (end : ℕ) → s.start ≤ end → end ≤ length s.text → IsCharBoundary s.text end → IsPlaceFrom s.text s.start (text_end s end)

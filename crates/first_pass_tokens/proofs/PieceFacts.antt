@@ -1,6 +1,6 @@
 -- The piece at a place, case by case: its bytes and its token. Other facts on pieces follow only from these.
 use Rattle.std.proofs.Common.{◌≡◌, ℕ, ◌+◌, ◌-◌, ◌≤◌, ◌<◌, ◌==◌, ◌&&◌, not, Bool, true, false, List, length, drop, slice_index, Option, Some, unwrap_or, refl}
-use Rattle.std.proofs.Common.{sym, ap, subst, ◌∙◌, inl, inr, arith, length-drop, ◌||◌, suc, nat_lt, None, get_or-drop, eqb-true, eq-eqb, ltb-true, ne_eqb}
+use Rattle.std.proofs.Common.{sym, ap, subst, ◌∙◌, inl, inr, arith, length-drop, ◌||◌, suc, nat_lt, get_or-drop, eqb-true, eq-eqb, ltb-true}
 use Rattle.std.specs.Option.{option_map_or}
 use Rattle.std.specs.Char.{is_ascii_punctuation}
 use Rattle.std.specs.List.{prefix_len}
@@ -12,8 +12,8 @@ use Rattle.first_pass_items.specs.Bytes.{dollar_sign, ampersand, hyphen, full_st
 use Rattle.first_pass_items.specs.declared.cow_str.CowStr.{CowStr}
 use Rattle.first_pass_items.specs.declared.item.ItemBody.{ItemBody}
 use Rattle.first_pass_items.specs.declared.option_set.Options.{Options}
-use Rattle.first_pass_items.specs.declared.item.ItemBody.TheVariants.{Text, MaybeEmphasis, MaybeMath, MaybeSmartQuote, SynthesizeChar, SynthesizeText}
-use Rattle.first_pass_items.specs.declared.item.ItemBody.TheVariants.{MaybeCode, MaybeHtml, MaybeLinkOpen, MaybeLinkClose, MaybeImage}
+use Rattle.first_pass_items.specs.declared.item.ItemBody.TheVariants.{MaybeEmphasis, MaybeMath, MaybeSmartQuote, SynthesizeChar, SynthesizeText, MaybeCode}
+use Rattle.first_pass_items.specs.declared.item.ItemBody.TheVariants.{MaybeHtml, MaybeLinkOpen, MaybeLinkClose, MaybeImage}
 use Rattle.first_pass_tree.specs.Forest.{is_text, is_escaped}
 use Rattle.first_pass_lines.specs.Lines.{is_line_end, is_white}
 use Rattle.first_pass_entities.specs.Entities.{entity_at}
@@ -63,12 +63,10 @@ is_markup _ = false
 
 -- markup is no text
 pub markup_plain : (body : ItemBody) → is_markup body ≡ true → is_text body ≡ false
-markup_plain (Text escaped) h = absurd (false≢true h)
-markup_plain _ h = refl
+markup_plain body h = grind (arith, false≢true)
 
 pub markup_unescaped : (body : ItemBody) → is_markup body ≡ true → is_escaped body ≡ false
-markup_unescaped (Text escaped) h = absurd (false≢true h)
-markup_unescaped _ h = refl
+markup_unescaped body h = grind (arith, false≢true)
 
 -- a kind that names a text
 abbrev pub names_text : ItemBody → Bool
@@ -166,16 +164,7 @@ module _ (text : List ℕ) (at : ℕ) where
   -- it ends before another byte
   run_stops : 0 < slice_index text at → (slice_index text (at + run_at text at) == slice_index text at) ≡ false
   unfolding run_at
-  run_stops some =
-      let p : ℕ → Bool = λ b. b == slice_index text at in
-      let len = length-drop at text in
-      elim (cases_lt (prefix_len p (drop at text)) (length (drop at text))) [
-        | inl inside ↦
-            ap p (sym (get_or-drop at text (prefix_len p (drop at text)) 0)) ∙ prefix_len_stops p (drop at text) 0 inside
-        | inr whole ↦
-            let past = get_or_past text (at + prefix_len p (drop at text)) 0 (omega arith) in
-            ne_eqb (slice_index text (at + prefix_len p (drop at text))) (slice_index text at) (λ same. omega arith)
-      ]
+  run_stops some = grind (arith, length-drop, cases_lt, get_or-drop, prefix_len_stops, get_or_past)
 
   -- a run is within the text
   pub run_fits : run_at text at ≤ length (drop at text)
@@ -194,10 +183,7 @@ module _ (text : List ℕ) (at : ℕ) where
   -- after the first byte of a run, the others are a run
   pub run_next : (n : ℕ) → suc n ≡ run_at text at → 0 < n → (n ≡ run_at text (at + 1)) × (slice_index text (at + 1) ≡ slice_index text at)
   unfolding run_at
-  run_next n all some =
-      let next : slice_index text (at + 1) ≡ slice_index text at = run_same (at + 1) (omega arith) (omega arith) in
-      let first = run_first (omega (arith, run_fits, length-drop at text)) in
-      (rw next (omega arith), next)
+  run_next n all some = grind (arith, run_same, run_first, run_fits, length-drop)
 
   -- a token without a dropped backslash
   undropped_token : (n : ℕ) (body : ItemBody) → 0 < n → Each IsMark text at n → is_markup body ≡ true → StandsOver text at (at + n) body
@@ -221,12 +207,7 @@ module _ (text : List ℕ) (at : ℕ) (within : at < length text) where
 
   -- a run as plain text
   run_left : (n : ℕ) → n ≡ run_at text at → (slice_index text at == backquote) ≡ false → IsLeft text at n
-  run_left n all other = record {
-    some = omega (arith, all, run_some text at within);
-    fits = omega (arith, all, run_fits text at, length-drop at text);
-    same = λ k low high. run_same text at k low (omega (arith, all));
-    other = other;
-  }
+  run_left n all other = grind (arith, run_some, run_fits, length-drop, run_same)
 
   -- a run of delimiters, as tokens or as plain text
   run_piece_facts : is_delimiter (slice_index text at) ≡ true → (r : DelimiterRun) → r.size ≡ run_at text at → IsReady text at (run_piece r)
@@ -351,8 +332,7 @@ IsFoundAt text at CloseBrace = IsLeft text at 1
 
 reference_facts : (text : List ℕ) (at : ℕ) → at < length text → slice_index text at ≡ ampersand → (o : Option (ℕ × ℕ)) → entity_at (drop at text) ≡ o
     → IsFoundAt text at (option_map_or (λ (e : ℕ × ℕ). Reference e.0 e.1) o (Ready (Left 1)))
-reference_facts text at within is (Some e) same = same
-reference_facts text at within is None same = (one_left text at within (ap (λ (x : ℕ). x == backquote) is), tt)
+reference_facts text at within is o same = grind (arith, one_left)
 
 -- the piece found at a place of the text
 pub found_facts : (s : Inline) (at : ℕ) → at < length s.text → IsFoundAt s.text at (found_at s at)
@@ -395,17 +375,11 @@ IsByteOf text at (Left n) k = (slice_index text k ≡ slice_index text at) × (k
 IsByteOf text at _ k = IsVisible (slice_index text k)
 
 pub piece_byte : (text : List ℕ) (at : ℕ) (p : Piece) → IsPieceAt text at p → (k : ℕ) → at ≤ k → k < at + size p → IsByteOf text at p k
-piece_byte text at (Left n) facts k low high = (facts.same k low high, omega (arith, facts.fits))
-piece_byte text at (Run n opens closes) facts k low high = (mark_facts _ (facts.marks k low high)).visible
-piece_byte text at (Begins dropped escaped) facts k low high = grind (arith, cases_lt, punctuation_visible)
-piece_byte text at (Token dropped n body) facts k low high = grind (arith, cases_lt, mark_facts)
+piece_byte text at p facts k low high = grind (arith, mark_facts, cases_lt, punctuation_visible)
 
 -- a piece has at least one byte
 pub piece_some : (text : List ℕ) (at : ℕ) (p : Piece) → IsPieceAt text at p → 0 < size p
-piece_some text at (Left n) facts = facts.some
-piece_some text at (Run n opens closes) facts = facts.some
-piece_some text at (Begins dropped escaped) facts = omega arith
-piece_some text at (Token dropped n body) facts = omega (arith, facts.some)
+piece_some text at p facts = grind arith
 
 -- a piece is within the text
 pub piece_fits : (text : List ℕ) (at : ℕ) (p : Piece) → IsPieceAt text at p → at + size p ≤ length text

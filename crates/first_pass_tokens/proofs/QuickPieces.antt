@@ -1,5 +1,5 @@
 -- The pieces that `quick_piece` finds at once.
-use Rattle.std.proofs.Common.{◌≡◌, ℕ, ◌+◌, ◌<◌, ◌==◌, ◌&&◌, not, Bool, false, true, List, length, refl, sym, ap, arith, slice_index}
+use Rattle.std.proofs.Common.{◌≡◌, ℕ, ◌+◌, ◌<◌, ◌==◌, Bool, false, true, List, length, refl, sym, ap, arith, slice_index}
 use Rattle.std.proofs.lemmas.Bool.{cases_lt, or_parts}
 use Rattle.std.proofs.lemmas.Bool.Decides.{nat_tests}
 use Rattle.std.specs.Char.{is_ascii_punctuation}
@@ -49,8 +49,7 @@ backslash_first b other = (grind (arith, nat_tests, other), (grind (arith, nat_t
 backslash_left : (row : Bool) (text : List ℕ) (at : ℕ) → is_ascii_punctuation (slice_index text (at + 1)) ≡ false
     → backslash_piece_in row text at ≡ Left 1
 unfolding backslash_piece
-backslash_left true text at other = let f = backslash_first (slice_index text (at + 1)) other in rw (f.0, f.1.0, f.1.1, other) refl
-backslash_left false text at other = let f = backslash_first (slice_index text (at + 1)) other in rw (f.1.1, other) refl
+backslash_left row text at other = grind (arith, backslash_first)
 
 pub backslash_ready : (z : Inline) (at : ℕ) → slice_index z.text at ≡ backslash → is_ascii_punctuation (slice_index z.text (at + 1)) ≡ false
     → IsReadyAt z at (Left 1)
@@ -86,20 +85,10 @@ delimiter_ready z at piece h is =
 
 bracket_left : (text : List ℕ) (at : ℕ) → is_bracket_at text at ≡ false → bracket_piece text at ≡ Left 1
 unfolding bracket_piece
-bracket_left text at none =
-    let b = slice_index text at in
-    let next = slice_index text (at + 1) in
-    let less = or_parts (b == less_than && not (next == backslash)) _ none in
-    let image = or_parts (b == exclamation_mark && next == left_bracket) _ less.1 in
-    let link = or_parts (b == left_bracket) (b == right_bracket) image.1 in
-    rw (less.0, image.0, link.0, link.1) refl
+bracket_left text at none = grind (arith, or_parts)
 
 -- where `quick_piece` finds none, each byte but a backslash, a quote and a full stop is plain text
 pub other_plain : (z : Inline) (at : ℕ) → is_quick_at z.row z.text at ≡ false → (slice_index z.text at == backslash) ≡ false
     → is_quote (slice_index z.text at) ≡ false → (slice_index z.text at == full_stop) ≡ false → special_piece z at ≡ Left 1
 unfolding special_piece
-other_plain z at none first quote stop =
-    let run = or_parts (is_delimiter (slice_index z.text at)) _ none in
-    let code = or_parts (slice_index z.text at == backquote) _ run.1 in
-    let bracket = or_parts (is_bracket_at z.text at) _ code.1 in
-    rw (first, code.0, run.0, quote, stop) (bracket_left z.text at bracket.0)
+other_plain z at none first quote stop = grind (arith, or_parts, bracket_left)

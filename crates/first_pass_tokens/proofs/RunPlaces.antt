@@ -1,6 +1,6 @@
 -- A delimiter run ends between two characters of the whole text.
-use Rattle.std.proofs.Common.{ℕ, ◌≡◌, ◌+◌, ◌-◌, ◌≤◌, ◌<◌, ◌||◌, true, List, length, take, slice_index, Option, Some, None, IsCharBoundary, IsUtf8, sym, ap}
-use Rattle.std.proofs.Common.{subst, ◌∙◌, inl, inr, arith, length-take, get_or-take, take_all}
+use Rattle.std.proofs.Common.{ℕ, ◌≡◌, ◌+◌, ◌-◌, ◌≤◌, ◌<◌, ◌||◌, true, List, length, take, slice_index, Option, IsCharBoundary, IsUtf8, subst, arith}
+use Rattle.std.proofs.Common.{length-take, get_or-take, take_all}
 use Rattle.std.proofs.lemmas.Bool.{cases_lt, cond_both}
 use Rattle.std.proofs.lemmas.Bool.Decides.{nat_tests}
 use Rattle.std.proofs.lemmas.Str.{IsCharBoundary-after_ascii}
@@ -10,21 +10,11 @@ use Rattle.first_pass_tokens.proofs.PieceFacts.{IsVisible, run_same}
 -- a byte of the first bytes of a text is a byte of the text
 pub front_byte : (whole text : List ℕ) (k : ℕ) → text ≡ take (length text) whole → k < length text
     → (slice_index text k ≡ slice_index whole k) × (k < length whole)
-front_byte whole text k front within = (
-  ap (λ (xs : List ℕ). slice_index xs k) front ∙ get_or-take (length text) whole k 0 within,
-  omega (arith, ap length front, length-take (length text) whole),
-)
+front_byte whole text k front within = grind (arith, get_or-take, length-take)
 
 -- a text up to an offset is the first bytes of the text, as many as it has
 pub front_upto : (whole text : List ℕ) (end : Option ℕ) → text ≡ text_upto whole end → text ≡ take (length text) whole
-front_upto whole text None is = is ∙ sym (take_all (length text) whole (let size = ap length is in omega arith))
-front_upto whole text (Some e) is =
-    let size = length-take e whole in
-    let same = ap length is in
-    elim (cases_lt e (length whole)) [
-      | inl inside ↦ is ∙ ap (λ (n : ℕ). take n whole) (omega arith)
-      | inr past ↦ is ∙ take_all e whole past ∙ sym (take_all (length text) whole (omega arith))
-    ]
+front_upto whole text end is = grind (arith, take_all, length-take, cases_lt)
 
 run_alike : (text : List ℕ) (at k : ℕ) → at ≤ k → k < at + run_size text at → slice_index text k ≡ slice_index text at
 unfolding run_size

@@ -1,6 +1,6 @@
 -- The part of a content that is read, and the tokens appended for it.
-use Rattle.std.proofs.Common.{ℕ, zero, suc, ◌≡◌, ◌⊎◌, ◌+◌, ◌-◌, ◌≤◌, ◌<◌, ◌==◌, min, Bool, true, false, List, [], ◌∷◌, ◌++◌, length, slice_index}
-use Rattle.std.proofs.Common.{Option, Result, Ok, Err, OnOk, IfOk, refl, sym, ap, subst, ◌∙◌, inl, inr, arith, le-leb}
+use Rattle.std.proofs.Common.{ℕ, zero, suc, ◌≡◌, ◌⊎◌, ◌+◌, ◌-◌, ◌≤◌, ◌<◌, ◌==◌, min, Bool, true, false, List, ◌∷◌, ◌++◌, length, slice_index, Option, Result}
+use Rattle.std.proofs.Common.{Ok, Err, OnOk, IfOk, refl, sym, ap, subst, ◌∙◌, inl, inr, arith, le-leb, []}
 use Rattle.std.specs.declared.alloc.AllocError.{AllocError}
 use Rattle.std.proofs.lemmas.Bool.Decides.{nat_tests}
 use Rattle.std.proofs.lemmas.Bool.{cases_lt, or_left, cond_both, cond-true, cond-false}
@@ -82,27 +82,10 @@ so_far_start z within = grind (arith, held_start, add_text-none)
 -- a text grows by the bytes after it
 add_text_grows : (begin at n stop : ℕ) (escaped : Bool) (chain : List Item) → begin ≤ at → (begin < at) ⊎ (escaped ≡ false) → begin ≤ stop
     → add_text at (min (at + n) stop) false (add_text begin (min at stop) escaped chain) ≡ add_text begin (min (at + n) stop) escaped chain
-add_text_grows begin at n stop escaped chain upto mark ahead =
-    elim (cases_lt at stop) [
-      | inl more ↦
-          let here : min at stop ≡ at = omega arith in
-          rw here (elim (cases_lt begin at) [
-            | inl longer ↦ add_text-joined begin at (min (at + n) stop) escaped chain longer (omega arith)
-            | inr empty ↦
-                let plain : escaped ≡ false = elim mark [ inl longer ↦ absurd (omega arith) | inr none ↦ none ] in
-                let same : at ≡ begin = omega arith in
-                rw (add_text-none begin at escaped chain empty, same, plain) refl
-          ])
-      | inr past ↦
-          let none : min (at + n) stop ≤ at = omega arith in
-          let same : min at stop ≡ min (at + n) stop = omega arith in
-          add_text-none at (min (at + n) stop) false _ none ∙ ap (λ (x : ℕ). add_text begin x escaped chain) same
-    ]
+add_text_grows begin at n stop escaped chain upto mark ahead = grind (arith, cases_lt, add_text-joined, add_text-none)
 
 pub begins_on : (text : List ℕ) (start begin at to : ℕ) → at ≤ to → BeginsText text start begin at → BeginsText text start begin to
-begins_on text start begin at to order (inl same) = inl same
-begins_on text start begin at to order (inr (positive, solid, inl longer)) = inr (positive, solid, inl (omega arith))
-begins_on text start begin at to order (inr (positive, solid, inr other)) = inr (positive, solid, inr other)
+begins_on text start begin at to order h6 = grind arith
 
 -- after a token an empty text is pending
 held_none : (text : List ℕ) (start begin at : ℕ) → start < begin → begin ≤ at → IsMark (slice_index text (begin - 1))
@@ -118,18 +101,14 @@ held_piece text start at (Token dropped n body) p facts h = grind (arith, held_n
 held_piece text start at (Run n opens closes) p facts h = grind (arith, held_none)
 
 held_later : (at : ℕ) (q : Piece) (p : HeldText) → p.begin ≤ at → p.begin ≤ (held_after at q p).begin
-held_later at (Left n) p upto = omega arith
-held_later at _ p upto = omega arith
+held_later at q p upto = grind arith
 
 -- the texts and tokens after one more piece, if the texts stop at an offset
 pub shown_piece : (text : List ℕ) (start stop at : ℕ) (q : Piece) (p : HeldText) (chain : List Item)
     → IsHeld text start p at → (held_after at q p).begin ≤ stop
     → add_piece stop at q (add_text p.begin (min at stop) p.escaped chain)
     ≡ add_text (held_after at q p).begin (min (at + size q) stop) (held_after at q p).escaped (chain_after at q p chain)
-shown_piece text start stop at (Left n) p chain h ahead = add_text_grows p.begin at n stop p.escaped chain h.upto h.mark ahead
-shown_piece text start stop at (Begins dropped escaped) p chain h ahead = (let here : min at stop ≡ at = omega arith in rw here refl)
-shown_piece text start stop at (Token dropped n body) p chain h ahead = grind (arith, add_text-none)
-shown_piece text start stop at (Run n opens closes) p chain h ahead = grind (arith, add_text-none)
+shown_piece text start stop at q p chain h ahead = grind (arith, add_text_grows, add_text-none)
 
 -- one more piece
 so_far_piece : {texts : List CowStr} (z : Inline) (chain : List Item) (pending : HeldText) (at : ℕ) (b : MathBraces) → SoFar texts z chain pending at b
@@ -153,9 +132,7 @@ so_far_piece {texts} z chain pending at b s on found there p makes =
 -- up to a place n bytes later, with only plain text before it
 so_far_upto : {texts : List CowStr} (z : Inline) (chain : List Item) (pending : HeldText) (n at to : ℕ) (b : MathBraces) → to ≡ at + n
     → SoFar texts z chain pending at b → to ≤ length z.text → ((k : ℕ) → at ≤ k → k < to → IsPlain z k) → SoFar texts z chain pending to b
-so_far_upto {texts} z chain pending zero at to b there s within plain =
-    let here : at ≡ to = omega arith in
-    subst (λ (k : ℕ). SoFar texts z chain pending k b) here s
+so_far_upto {texts} z chain pending zero at to b there s within plain = grind arith
 so_far_upto {texts} z chain pending (suc n) at to b there s within plain =
     let first = single_piece z at (omega arith) (plain at (omega arith) (omega arith)) in
     let more : SoFar texts z chain pending (at + 1) b = so_far_piece z chain pending at b s first.0 (Ready (Left 1)) first.1 (Left 1) refl in
@@ -209,22 +186,12 @@ read_upto {texts} {z} {old} {tree} {pending} at to b r order within plain =
 pub read_more : {new old : List CowStr} {z : Inline} {before tree : Forest Item} {pending : HeldText} {to : Spot}
     → AreMore new old → IsRead old z before tree pending to
     → IsRead new z before tree pending to
-read_more {new} {old} {z} {before} {tree} {pending} {to} more r =
-    let s = r.read in
-    let divided = pieces_more new old z z.start z.braces s.pieces (spot to.at to.braces) more s.divided in
-    record {
-      tokens = r.tokens;
-      read = record { pieces = s.pieces; divided = divided; within = s.within; held = s.held; shown = s.shown };
-      tree_is = r.tree_is;
-    }
+read_more {new} {old} {z} {before} {tree} {pending} {to} more r = grind (arith, pieces_more)
 
 -- the tree after a piece has the chain after that piece
 tree_is_after : (text : List ℕ) (old : Forest Item) (chain : List Item) (pending : HeldText) (at : ℕ) (p : Piece) → IsPieceAt text at p
     → pending.begin ≤ at → with_tokens old (chain_after at p pending chain) ≡ tree_after at p pending (with_tokens old chain)
-tree_is_after text old chain pending at (Left n) facts order = refl
-tree_is_after text old chain pending at (Begins dropped escaped) facts order = with_tokens-text old chain pending.begin at pending.escaped order
-tree_is_after text old chain pending at (Token dropped n body) facts order = grind (arith, with_tokens-add, with_token-plain, markup_plain, with_tokens-text)
-tree_is_after text old chain pending at (Run n opens closes) facts order = grind (arith, with_tokens-adds, with_tokens-text)
+tree_is_after text old chain pending at p facts order = grind (arith, with_tokens-text, with_tokens-add, with_token-plain, markup_plain, with_tokens-adds)
 
 module _ {texts : List CowStr} {z : Inline} {at : ℕ} {found : TokenStart} (on : content_ends_at z at ≡ false) (there : found_at z at ≡ found) where
   pub read_piece : {old tree : Forest Item} {pending : HeldText} {b : MathBraces} (p : Piece) → MakesPiece texts b found p

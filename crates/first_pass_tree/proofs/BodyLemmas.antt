@@ -1,5 +1,5 @@
 -- The body of a node, after nodes change.
-use Rattle.std.proofs.Common.{◌≡◌, ℕ, zero, suc, ◌<◌, List, [], ◌∷◌, slice_get, Option, Some, None, refl, ap, arith, option_map}
+use Rattle.std.proofs.Common.{◌≡◌, ℕ, zero, suc, ◌<◌, List, ◌∷◌, slice_get, Option, Some, refl, ap, arith, option_map, []}
 use Rattle.first_pass_items.specs.declared.item.Item.{Item}
 use Rattle.first_pass_items.specs.declared.item.ItemBody.{ItemBody}
 use Rattle.first_pass_tree.specs.declared.tree_index.TreeIndex.{TreeIndex}
@@ -50,8 +50,7 @@ not_changed (n ∷ nodes) zero g b is same = (let e : n.1.body ≡ b = cc in ap 
 not_changed (n ∷ nodes) (suc place) g b is same = ap (λ z. n ∷ z) (not_changed nodes place g b is same)
 
 body_by : (o : Option (ℕ × Item)) (x : Item) → option_map (λ n. n.1) o ≡ Some x → option_map (λ n. n.1.body) o ≡ Some x.body
-body_by None x h = cc
-body_by (Some n) x h = (let e : n.1 ≡ x = cc in ap (λ (y : Item). Some y.body) e)
+body_by o x h = grind arith
 
 -- the body of a node that is read
 pub body_of : (f : Forest Item) (ix : TreeIndex) (x : Item) → item_at f ix ≡ Some x → body_at f.nodes ix.0 ≡ Some x.body

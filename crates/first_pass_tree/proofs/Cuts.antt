@@ -1,38 +1,20 @@
 -- The children of a node cut at an offset: the result is a forest.
-use Rattle.std.proofs.Common.{◌≡◌, ℕ, ◌+◌, ◌-◌, ◌<◌, ◌≤◌, suc, zero, List, [], ◌∷◌, ◌++◌, length, take, drop, Some, None, true, false, Bool, nat_lt}
-use Rattle.std.proofs.Common.{if◌then◌else◌, ◌&&◌, ◌==◌, get_or, IfSome, Option, refl, sym, ◌∙◌, ap, subst, arith, take-take, take-append-drop}
-use Rattle.std.proofs.Common.{length-append, length-take-le, length-take, length-drop, get_or-drop}
+use Rattle.std.proofs.Common.{◌≡◌, ℕ, ◌+◌, ◌-◌, ◌≤◌, suc, zero, List, ◌∷◌, ◌++◌, length, take, drop, Some, None, true, false, nat_lt, if◌then◌else◌, get_or}
+use Rattle.std.proofs.Common.{IfSome, Option, refl, sym, ◌∙◌, ap, subst, arith, take-take, take-append-drop, length-append, length-take-le, length-take}
+use Rattle.std.proofs.Common.{length-drop, get_or-drop, []}
 use Rattle.std.proofs.lemmas.List.{drop-take, map-append, length-map, take-map, drop-map}
 use Rattle.std.proofs.lemmas.Bool.Decides.{nat_tests}
 use Rattle.first_pass_tree.specs.declared.tree_index.TreeIndex.{TreeIndex}
 use Rattle.first_pass_items.specs.declared.item.Item.{Item}
-use Rattle.first_pass_items.specs.declared.item.ItemBody.TheVariants.{Text}
-use Rattle.first_pass_tree.specs.Forest.{Forest, IsForest, IsLastAt, IsOpenPath, IsPreorder, depths, cut_tokens, cut_item, is_single_before}
-use Rattle.first_pass_tree.specs.Forest.{is_escaped, cut_siblings, last_child, last_before, open_place}
+use Rattle.first_pass_tree.specs.Forest.{Forest, IsForest, IsLastAt, IsOpenPath, IsPreorder, depths, cut_tokens, is_single_before, cut_siblings, last_child}
+use Rattle.first_pass_tree.specs.Forest.{last_before, open_place}
 use Rattle.first_pass_tree.proofs.Depths.{preorder-take, path-edit, take-edit, open-last}
-use Rattle.first_pass_tree.proofs.Moves.{IsLastBefore, last_before-is}
-
--- one node and the cut of those after it, by the tests on the node
-abbrev cut_by : ℕ → ℕ × Item → List (ℕ × Item) → Bool → Bool → Bool → List (ℕ × Item)
-cut_by e n rest deeper starts escaped =
-    if deeper
-    then n ∷ rest
-    else (if starts
-    then (n.0, cut_item e n.1) ∷ rest
-    else (if escaped then (n.0, record { start = e - 1; «end» = e; body = Text false }) ∷ [] else []))
+use Rattle.first_pass_tree.proofs.Moves.{last_before-is}
 
 -- the cut keeps the depths of the remaining nodes
 cut-depths : (e d : ℕ) (ns : List (ℕ × Item)) → depths (cut_tokens e d ns) ≡ take (length (cut_tokens e d ns)) (depths ns)
 cut-depths e d [] = refl
-cut-depths e d (n ∷ ns) =
-    by (cut_tokens e d ns) (nat_lt d n.0) (nat_lt n.1.start e) (is_escaped n.1.body && (n.1.start == e)) (cut-depths e d ns)
-  where
-    by : (rest : List (ℕ × Item)) (u a b : Bool)
-        → depths rest ≡ take (length rest) (depths ns) → depths (cut_by e n rest u a b) ≡ take (length (cut_by e n rest u a b)) (depths (n ∷ ns))
-    by rest true a b h = ap (λ z. n.0 ∷ z) h
-    by rest false true b h = ap (λ z. n.0 ∷ z) h
-    by rest false false true h = refl
-    by rest false false false h = refl
+cut-depths e d (n ∷ ns) = grind (arith, cut-depths e d ns)
 
 pub cut-length : (e d : ℕ) (ns : List (ℕ × Item)) → length (cut_tokens e d ns) ≤ length ns
 cut-length e d ns =
@@ -48,24 +30,7 @@ take-two xs p m =
 -- later index has less
 last_child-is : (ns : List (ℕ × Item)) (is : List TreeIndex)
     → IsPreorder (depths ns) → IsOpenPath (depths ns) is → IfSome (last_child is ns) (λ c. IsLastAt (depths ns) (length is + 1) c.0)
-last_child-is ns is pre path =
-    let ds = depths ns in
-    let d = length is + 1 in
-    let p = open_place is + 1 in
-    let o = open-last ds is path in
-    let m = length-map ns (λ n. n.0) in
-    let last = λ (q : p < length ns).
-    let low = o.following p (omega arith) (omega arith) in
-    let high = pre (open_place is) (omega arith) in
-    last_before-is ds d p (length ns) q (omega (arith, o.depth)) (λ k a b. let w = o.following k (omega arith) (omega arith) in omega arith) in
-    by (nat_lt p (length ns)) (λ e. last (grind (arith, nat_tests, e)))
-  where
-    by : (t : Bool) → (t ≡ true → IsLastBefore (depths ns) (length is + 1) (length ns) (last_before (depths ns) (length is + 1) (length ns)))
-        → IfSome {T = TreeIndex} (if t then Some (record { 0 = last_before (depths ns) (length is + 1) (length ns) }) else None)
-        (λ c. IsLastAt (depths ns) (length is + 1) c.0)
-    by true l = (let i = l refl in let m = length-map ns (λ n. n.0) in
-        record { within = omega (arith, i.within); depth = i.depth; following = λ k a b. i.following k a (omega arith) })
-    by false l = tt
+last_child-is ns is pre path = grind (arith, open-last, length-map, last_before-is, nat_tests)
 
 pub cut_siblings-is : (f : Forest Item) (e : ℕ) → IsForest f → IsForest (cut_siblings f e)
 cut_siblings-is f e h =
@@ -98,9 +63,7 @@ siblings-by f e p d ns cur ep ed el ec = cc
 
 -- no node, or more than one
 pub single-other : (e : ℕ) (ns : List (ℕ × Item)) → (length ns ≡ 1 → ⊥) → is_single_before e ns ≡ false
-single-other e [] h = refl
-single-other e (n ∷ []) h = absurd (h refl)
-single-other e (n ∷ m ∷ ns) h = refl
+single-other e ns h = grind arith
 
 -- a last node that does not start before the offset
 pub single-late : (e p : ℕ) (ns : List (ℕ × Item)) (d : ℕ × Item)
@@ -111,15 +74,11 @@ single-late e zero (n ∷ m ∷ ns) d l h = refl
 single-late e (suc p) (n ∷ ns) d l h = single-late e p ns d (omega arith) h
 
 single-length : (e : ℕ) (ns : List (ℕ × Item)) → is_single_before e ns ≡ true → length ns ≡ 1
-single-length e [] t = absurd cc
-single-length e (n ∷ []) t = refl
-single-length e (n ∷ m ∷ ns) t = absurd cc
+single-length e ns t = grind arith
 
 -- a single token that ends before the cut is unchanged
 single-uncut : (e d : ℕ) (ns : List (ℕ × Item)) → is_single_before e ns ≡ true → get_or (depths ns) 0 0 ≤ d → cut_tokens e d ns ≡ ns
-single-uncut e d [] t l = refl
-single-uncut e d (n ∷ []) t l = grind (arith, nat_tests)
-single-uncut e d (n ∷ m ∷ ns) t l = absurd cc
+single-uncut e d ns t l = grind (arith, nat_tests)
 
 last_before-here : (ds : List ℕ) (d k n : ℕ) → n ≡ suc k → get_or ds k 0 ≡ d → last_before ds d n ≡ k
 last_before-here ds d k n e h = grind (arith, nat_tests)

@@ -1,11 +1,10 @@
 -- Lists of depths: the last index of a depth, and open paths, after an edit.
-use Rattle.std.proofs.Common.{◌≡◌, ℕ, ◌+◌, ◌-◌, ◌<◌, ◌≤◌, suc, zero, List, [], ◌∷◌, ◌++◌, length, get_or, take, drop, nat_lt, true, false, sym, ap}
-use Rattle.std.proofs.Common.{◌∙◌, arith, get_or-take, get_or-drop, length-take-le, length-drop}
+use Rattle.std.proofs.Common.{◌≡◌, ℕ, ◌+◌, ◌-◌, ◌<◌, ◌≤◌, suc, zero, List, ◌∷◌, ◌++◌, length, get_or, take, drop, nat_lt, true, sym, ap, ◌∙◌, arith}
+use Rattle.std.proofs.Common.{get_or-take, get_or-drop, length-take-le, length-drop, []}
 use Rattle.std.proofs.lemmas.Bool.{cases_lt}
 use Rattle.std.proofs.lemmas.Bool.Decides.{nat_tests}
 use Rattle.std.proofs.lemmas.List.{places, get_or_append_left, get_or_push, length_push}
 use Rattle.std.proofs.lemmas.List.Sums.{prefix_len_passes, prefix_len_stops}
-use Rattle.std.specs.List.{prefix_len}
 use Rattle.first_pass_tree.specs.declared.tree_index.TreeIndex.{TreeIndex}
 use Rattle.first_pass_tree.specs.Forest.{IsLastAt, IsOpenPath, IsPreorder, end_of, open_place}
 
@@ -15,8 +14,7 @@ last-order ds d e i j h g l = grind (arith, h.depth, g.depth, g.following i, h.w
 
 -- the innermost open node is the last of its depth
 pub open-last : (ds : List ℕ) (is : List TreeIndex) → IsOpenPath ds is → IsLastAt ds (length is) (open_place is)
-open-last ds [] h = h
-open-last ds (i ∷ is) h = record { within = h.0.within; depth = grind (arith, h.0.depth); following = λ k p q. grind (arith, h.0.following k p q) }
+open-last ds is h = grind arith
 
 -- These depths are the same before an index, and from there on they are greater than one depth.
 pub record IsEdit (ds es : List ℕ) (p d : ℕ) : Type 0 where
@@ -39,12 +37,7 @@ pub append-edit : (ds : List ℕ) (d e : ℕ) → d < e → IsEdit ds (ds ++ e �
 append-edit ds d e l = grind (arith, length_push, get_or_append_left, places, get_or_push)
 
 pub take-edit : (ds : List ℕ) (n d : ℕ) → n ≤ length ds → IsEdit ds (take n ds) n d
-take-edit ds n d m = record {
-  within = m;
-  there = omega (arith, length-take-le n ds m);
-  before = λ k a. get_or-take n ds k 0 a;
-  following = λ k a b. absurd (omega (arith, length-take-le n ds m));
-}
+take-edit ds n d m = grind (arith, length-take-le, get_or-take)
 
 pub last-push : (ds : List ℕ) (e : ℕ) → IsLastAt (ds ++ e ∷ []) e (length ds)
 last-push ds e = grind (arith, length_push, get_or_push)
@@ -78,10 +71,4 @@ before-end ds i k a b =
 
 -- the node at that end is not deeper
 pub at-end : (ds : List ℕ) (i : ℕ) → i < length ds → end_of ds i < length ds → get_or ds (end_of ds i) 0 ≤ get_or ds i 0
-at-end ds i l h =
-    let p = λ (d : ℕ). nat_lt (get_or ds i 0) d in
-    let w : prefix_len p (drop (i + 1) ds) < length (drop (i + 1) ds) = omega (arith, length-drop (i + 1) ds) in
-    let t = prefix_len_stops p (drop (i + 1) ds) 0 w in
-    let u = get_or-drop (i + 1) ds (prefix_len p (drop (i + 1) ds)) 0 in
-    let r : nat_lt (get_or ds i 0) (get_or ds (end_of ds i) 0) ≡ false = ap (nat_lt (get_or ds i 0)) (sym u) ∙ t in
-    grind (arith, nat_tests, r)
+at-end ds i l h = grind (arith, length-drop, prefix_len_stops, get_or-drop, nat_tests)

@@ -1,7 +1,7 @@
 -- Each change of a forest results in a forest.
-use Rattle.std.proofs.Common.{◌≡◌, ℕ, ◌+◌, ◌-◌, ◌<◌, ◌≤◌, ◌^◌, suc, zero, List, ◌∷◌, ◌++◌, length, get_or, set, take, drop, map, Some, None, true, false, []}
-use Rattle.std.proofs.Common.{Bool, ◌&&◌, if◌then◌else◌, nat_lt, eqb, ◌≢◌, ◌⊎◌, reverse, slice_get, IfSome, Option, refl, sym, ◌∙◌, ap, subst, ⊎_elim, arith}
-use Rattle.std.proofs.Common.{add-one, length-append, get_or-drop, get_or-take, length-take-le, length-drop, get_or-set_other, length-set, insert, option_map}
+use Rattle.std.proofs.Common.{◌≡◌, ℕ, ◌+◌, ◌-◌, ◌<◌, ◌≤◌, ◌^◌, suc, zero, List, ◌∷◌, ◌++◌, length, get_or, set, take, drop, map, Some, None, true, false, Bool}
+use Rattle.std.proofs.Common.{nat_lt, ◌≢◌, ◌⊎◌, reverse, slice_get, IfSome, Option, refl, sym, ◌∙◌, ap, subst, ⊎_elim, arith, add-one, length-append}
+use Rattle.std.proofs.Common.{get_or-drop, get_or-take, length-take-le, length-drop, get_or-set_other, length-set, insert, option_map, []}
 use Rattle.std.proofs.lemmas.List.{length-reverse, get_or-reverse, map-append, length-map, take-map, get_or-map, take_more, reverse-append, get_or_at}
 use Rattle.std.proofs.lemmas.List.{map-set}
 use Rattle.std.proofs.lemmas.Option.{slice_get-get_or}
@@ -136,19 +136,7 @@ sibling-some ns i e d l r p h = grind (arith, length-map, depth_read, nat_tests)
 
 pub sibling-none : {T : Type 0} (ns : List (ℕ × T)) (i e : ℕ) (d : ℕ × T) → i < length ns → e ≡ run_end (depths ns) (get_or ns i d).0 (i + 1)
     → (e < length ns → (get_or ns e d).0 ≢ (get_or ns i d).0) → None ≡ sibling_of (depths ns) i
-sibling-none ns i e d l r h =
-    let a = depth_read ns i d l in
-    let q : e ≡ end_of (depths ns) i = rw a r in
-    rw (← q) (by (nat_lt e (length (depths ns))) (eqb (get_or (depths ns) e 0) (get_or (depths ns) i 0)) refl refl)
-  where
-    by : (t u : Bool) → nat_lt e (length (depths ns)) ≡ t → eqb (get_or (depths ns) e 0) (get_or (depths ns) i 0) ≡ u
-        → ◌≡◌ {A = Option TreeIndex} None (if t && u then Some (record { 0 = e }) else None)
-    by true true f g =
-        let w : e < length ns = grind (arith, nat_tests, f, length-map ns (λ n. n.0)) in
-        let k : get_or (depths ns) e 0 ≡ get_or (depths ns) i 0 = grind (arith, nat_tests, g) in
-        absurd (h w (sym (depth_read ns e d w) ∙ k ∙ depth_read ns i d l))
-    by true false f g = refl
-    by false u f g = refl
+sibling-none ns i e d l r h = grind (arith, depth_read, nat_tests, length-map)
 
 pub rev_take : {X : Type 0} (xs : List X) (k : ℕ) (d : X) → k < length xs → reverse (take (k + 1) xs) ≡ get_or xs k d ∷ reverse (take k xs)
 rev_take xs k d l =
@@ -171,11 +159,7 @@ in_table-turn ns xs left k d m e l h =
 
 pub in_table-stop : (o : Bool) (b : ItemBody)
     → ((a : AlignmentIndex) → b ≡ Table a → ⊥) → (b ≡ TableHead → ⊥) → (b ≡ TableRow → ⊥) → (b ≡ TableCell → ⊥) → in_table_by o (Some b) ≡ false
-in_table-stop o (Table a) t h r c = absurd (t a refl)
-in_table-stop o TableHead t h r c = absurd (h refl)
-in_table-stop o TableRow t h r c = absurd (r refl)
-in_table-stop o TableCell t h r c = absurd (c refl)
-in_table-stop o _ t h r c = refl
+in_table-stop o b t h r c = grind arith
 
 pub in_table-more : (o : Bool) (b : ItemBody) → (b ≡ TableHead) ⊎ ((b ≡ TableRow) ⊎ (b ≡ TableCell)) → in_table_by o (Some b) ≡ o
 in_table-more o b h = ⊎_elim (λ e. rw e refl) (λ k. ⊎_elim (λ e. rw e refl) (λ e. rw e refl) k) h
@@ -185,10 +169,7 @@ in_table-table o b a e = rw e refl
 
 -- a run of deeper nodes ends within the list
 pub run-within : {T : Type 0} (ns : List (ℕ × T)) (depth i : ℕ) → i ≤ length ns → run_end (depths ns) depth i ≤ length ns
-run-within ns depth i l =
-    let m = length-map ns (λ n. n.0) in
-    let q = prefix_len-le-length (λ d. nat_lt depth d) (drop i (depths ns)) in
-    omega (arith, length-drop i (depths ns))
+run-within ns depth i l = grind (arith, length-map, prefix_len-le-length, length-drop)
 
 pub kept_after-is : {T : Type 0} (f : Forest T) (ix : TreeIndex) → IsChild f ix → IsForest f → IsForest (kept_after f ix)
 kept_after-is f ix g h =
@@ -205,8 +186,7 @@ kept_after-is f ix g h =
     cut-is f p (Some ix) (omega (arith, g.following)) v last h
 
 pub open-at : (is : List TreeIndex) (ix : TreeIndex) → slice_get is 0 ≡ Some ix → open_place is ≡ ix.0
-open-at [] ix g = cc
-open-at (i ∷ is) ix g = let e : i ≡ ix = cc in ap (λ j. j.0) e
+open-at is ix g = grind arith
 
 pub childless-is : {T : Type 0} (f : Forest T) (ix : TreeIndex) → slice_get f.spine 0 ≡ Some ix → IsForest f → IsForest (childless f ix)
 childless-is f ix g h =
@@ -265,10 +245,7 @@ insert-small (n ∷ ns) (suc p) y l h (suc k) a b = insert-small ns p y (omega a
 -- after a write to one index, each depth after it keeps its property
 pub set-keeps : {T : Type 0} (P : ℕ → Type 0) (ns : List (ℕ × T)) (i : ℕ) (n : ℕ × T)
     → ((k : ℕ) → i ≤ k → k < length ns → P (get_or (depths ns) k 0)) → (k : ℕ) → i + 1 ≤ k → k < length (set ns i n) → P (get_or (depths (set ns i n)) k 0)
-set-keeps P ns i n h k a b =
-    let ne : k ≢ i = omega arith in
-    let same = ap (λ ds. get_or ds k 0) (map-set (λ n. n.0) ns i n) ∙ get_or-set_other (depths ns) i k n.0 0 ne in
-    subst P (sym same) (h k (omega arith) (omega (arith, b, length-set ns i n)))
+set-keeps P ns i n h k a b = grind (arith, map-set, get_or-set_other, length-set)
 
 -- the depths once a node is inserted before an index, and those from there on are one greater
 abbrev wrap : List ℕ → ℕ → ℕ → List ℕ

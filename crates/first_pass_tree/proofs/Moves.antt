@@ -1,6 +1,6 @@
 -- Siblings moved out of a list of depths.
-use Rattle.std.proofs.Common.{◌≡◌, ◌≢◌, ℕ, ◌+◌, ◌-◌, ◌<◌, ◌≤◌, suc, zero, List, [], ◌∷◌, length, get_or, map, Some, None, true, false, Bool, eqb, cond}
-use Rattle.std.proofs.Common.{IfSome, IsSomeAnd, Option, refl, sym, ◌∙◌, ap, subst, ⊎_elim, arith}
+use Rattle.std.proofs.Common.{◌≡◌, ◌≢◌, ℕ, ◌+◌, ◌-◌, ◌<◌, ◌≤◌, suc, zero, List, ◌∷◌, length, get_or, map, Some, true, false, Bool, eqb, cond, IfSome, IsSomeAnd}
+use Rattle.std.proofs.Common.{Option, refl, sym, ◌∙◌, ap, subst, ⊎_elim, arith, []}
 use Rattle.std.proofs.lemmas.List.{length-map}
 use Rattle.std.proofs.lemmas.Bool.{cases_lt, cases_eq}
 use Rattle.std.proofs.lemmas.Bool.Decides.{nat_tests}
@@ -72,8 +72,7 @@ last_before-is ds d p (suc n) l e h =
     (cases_eq (get_or ds n 0) d)
 
 some-and : {P : TreeIndex → Type 0} (o : Option TreeIndex) → IsSomeAnd o P → (c : TreeIndex) × ((o ≡ Some c) × P c)
-some-and None h = absurd h
-some-and (Some c) h = (c, (refl, h))
+some-and o h = grind arith
 
 -- the node directly before an index, after the last node of a depth, has at least that depth
 before-place : (ds : List ℕ) (d c e : ℕ) → IsLastAt ds d c → c < e → e ≤ length ds → d ≤ get_or ds (e - 1) 0
@@ -81,8 +80,7 @@ before-place ds d c e h l w = grind (arith, cases_eq)
 
 -- a current node before one index is before each later index
 later : (o : Option TreeIndex) (i e : ℕ) → i ≤ e → IsSomeAnd o (λ c. c.0 < i) → IsSomeAnd o (λ c. c.0 < e)
-later None i e l h = absurd h
-later (Some c) i e l h = omega arith
+later o i e l h = grind arith
 
 pub moved_from-is : {T : Type 0} (f : Forest T) (e : ℕ) → CanMoveFrom f e → IsForest f → IsForest (moved_from f e)
 moved_from-is f e g h =

@@ -1,13 +1,11 @@
 -- The recorded subtrees, after some are removed and after the depths of the tree change.
-use Rattle.std.proofs.Common.{◌≡◌, ℕ, ◌+◌, ◌<◌, ◌≤◌, ◌==◌, ◌||◌, nat_lt, Bool, true, false, suc, zero, List, [], ◌∷◌, ◌++◌, length, get_or, set, take}
-use Rattle.std.proofs.Common.{reverse, if◌then◌else◌, IfSome, Option, Some, None, refl, sym, ◌∙◌, ap, subst, arith, take_all, length-set, length-append}
-use Rattle.std.proofs.Common.{length-take-le, take-take, get_or-take}
+use Rattle.std.proofs.Common.{◌≡◌, ℕ, ◌+◌, ◌<◌, ◌≤◌, ◌==◌, true, suc, zero, List, ◌∷◌, ◌++◌, length, get_or, set, take, reverse, IfSome, Option, Some, refl}
+use Rattle.std.proofs.Common.{sym, ◌∙◌, ap, subst, arith, take_all, length-set, length-append, length-take-le, take-take, get_or-take, []}
 use Rattle.std.proofs.lemmas.Bool.Decides.{nat_tests}
 use Rattle.std.proofs.lemmas.List.{reverse-append, length-reverse, take_more_set, length-map, take-append-le, take-map}
 use Rattle.first_pass_tree.specs.declared.subtrees.Subtree.{Subtree}
 use Rattle.first_pass_tree.specs.declared.tree_index.TreeIndex.{TreeIndex}
-use Rattle.first_pass_tree.specs.Subtrees.{IsSubtree, AreSubtrees, IsTree, subtree, within_first, ended_last, ended, stands_outside, last_between}
-use Rattle.first_pass_tree.specs.Subtrees.{left_between}
+use Rattle.first_pass_tree.specs.Subtrees.{IsSubtree, AreSubtrees, IsTree, subtree, within_first, ended_last, ended, last_between, left_between}
 use Rattle.first_pass_tree.specs.Forest.{Forest, IsForest, IsLastAt, depths, map_from}
 use Rattle.first_pass_tree.proofs.Keeps.{rev_take, set-is, modify-set, depths-modify, map_from-length}
 
@@ -18,12 +16,7 @@ subtrees-up_to ds n m (e ∷ es) l h = (let w = h.0 in omega arith, h.1, h.2)
 
 first-are : (ds : List ℕ) (n count : ℕ) (es : List Subtree) → AreSubtrees ds n es → AreSubtrees ds count (within_first count es)
 first-are ds n count [] h = tt
-first-are ds n count (e ∷ es) h = by (nat_lt count e.past) (λ f. grind (arith, nat_tests, f)) (first-are ds e.past count es h.2)
-  where
-    by : (t : Bool) → (t ≡ false → e.past ≤ count) → AreSubtrees ds count (within_first count es)
-        → AreSubtrees ds count (if t then within_first count es else e ∷ es)
-    by true l r = r
-    by false l r = (l refl, h.1, h.2)
+first-are ds n count (e ∷ es) h = grind (arith, nat_tests, first-are ds e.past count es h.2)
 
 -- the subtrees that end within the first nodes
 pub subtrees-first : (ds : List ℕ) (n count : ℕ) (es fs : List Subtree) → fs ≡ within_first count es → AreSubtrees ds n es → AreSubtrees ds count fs
@@ -41,17 +34,7 @@ first-stop count left k xs d e l p = grind (arith, rev_take, nat_tests)
 
 ended_last-are : (ds : List ℕ) (place past : ℕ) (es : List Subtree) → IsSubtree ds place past → AreSubtrees ds past es
     → AreSubtrees ds past (ended_last place past es)
-ended_last-are ds place past [] s h = tt
-ended_last-are ds place past (e ∷ []) s h = by (e.place == place)
-  where
-    by : (t : Bool) → AreSubtrees ds past (if t then [] else e ∷ [])
-    by true = tt
-    by false = h
-ended_last-are ds place past (e ∷ o ∷ es) s h = by (e.place == place)
-  where
-    by : (t : Bool) → AreSubtrees ds past ((if t then subtree place past else e) ∷ o ∷ es)
-    by true = (omega arith, s, subtrees-up_to ds e.past past (o ∷ es) h.0 h.2)
-    by false = h
+ended_last-are ds place past es s h = grind (arith, subtrees-up_to)
 
 -- the last subtree gets another end
 pub subtrees-ended : (ds : List ℕ) (n place past : ℕ) (es fs : List Subtree) → fs ≡ ended place past es → IsSubtree ds place past
@@ -95,23 +78,12 @@ subtrees-dropped ds n place es fs e l h = subtrees-up_to ds place n fs (omega ar
 
 -- the records that remain after the last one is taken
 pub subtrees-left : (ds : List ℕ) (n from to : ℕ) (es fs : List Subtree) → fs ≡ left_between from to es → AreSubtrees ds n es → AreSubtrees ds n fs
-subtrees-left ds n from to [] fs e h = subst (AreSubtrees ds n) (sym e) tt
-subtrees-left ds n from to (x ∷ es) fs e h = subst (AreSubtrees ds n) (sym e) (by (stands_outside from to x))
-  where
-    by : (t : Bool) → AreSubtrees ds n (if t then x ∷ es else es)
-    by true = h
-    by false = subtrees-up_to ds x.past n es h.0 h.2
+subtrees-left ds n from to es fs e h = grind (arith, subtrees-up_to)
 
 -- the record that is taken is the last one, between the two indices
 pub taken-is : (P : Subtree → Type 0) (from to : ℕ) (es : List Subtree) (o : Option Subtree) → o ≡ last_between from to es
     → ((e : Subtree) (rest : List Subtree) → es ≡ e ∷ rest → from ≤ e.place → e.past ≤ to → P e) → IfSome o P
-taken-is P from to [] o q h = rw q tt
-taken-is P from to (e ∷ es) o q h = rw q (by (nat_lt e.place from) (nat_lt to e.past) refl refl)
-  where
-    by : (b p : Bool) → nat_lt e.place from ≡ b → nat_lt to e.past ≡ p → IfSome (if b || p then None else Some e) P
-    by true p f g = tt
-    by false true f g = tt
-    by false false f g = h e es refl (grind (arith, nat_tests, f)) (grind (arith, nat_tests, g))
+taken-is P from to es o q h = grind (arith, nat_tests)
 
 -- the last node of a depth, with all nodes after it
 last-subtree : {T : Type 0} (ns : List (ℕ × T)) (d i : ℕ) → IsLastAt (depths ns) d i → IsSubtree (depths ns) i (length ns)
@@ -162,16 +134,12 @@ set-kept f xs i n y e h = record {
 -- in a tree whose last nodes are cut off
 pub subtrees-cut : {T : Type 0} (ns ms : List (ℕ × T)) (n : ℕ) (xs : List Subtree) → n ≤ length ns → ms ≡ take n ns → AreSubtrees (depths ns) n xs
     → AreSubtrees (depths ms) (length ms) xs
-subtrees-cut ns ms n xs l e h =
-    let w : n ≤ length ms = omega (arith, ap length e, length-take-le n ns l) in
-    subtrees-front ns ms n xs l w (ap (take n) e ∙ take-take n n ns (omega arith)) h
+subtrees-cut ns ms n xs l e h = grind (arith, length-take-le, subtrees-front, take-take)
 
 -- in a tree with more nodes at the end
 pub subtrees-pushed : {T : Type 0} (ns ms more : List (ℕ × T)) (xs : List Subtree) → ms ≡ ns ++ more
     → AreSubtrees (depths ns) (length ns) xs → AreSubtrees (depths ms) (length ms) xs
-subtrees-pushed ns ms more xs e h =
-    subtrees-front ns ms (length ns) xs (omega arith) (omega (arith, ap length e, length-append ns more))
-    (ap (take (length ns)) e ∙ take-append-le (length ns) ns more (omega arith)) h
+subtrees-pushed ns ms more xs e h = grind (arith, subtrees-front, length-append, take-append-le)
 
 -- in a tree with other nodes after the first ones
 pub subtrees-joined : {T : Type 0} (ns ms more : List (ℕ × T)) (n : ℕ) (xs : List Subtree) → n ≤ length ns → ms ≡ take n ns ++ more

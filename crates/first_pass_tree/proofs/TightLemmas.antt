@@ -1,6 +1,6 @@
 -- Making the paragraphs of a list tight, one node after the other.
-use Rattle.std.proofs.Common.{◌≡◌, ◌≢◌, ℕ, zero, suc, ◌+◌, ◌<◌, ◌≤◌, ◌-◌, ◌==◌, nat_lt, Bool, true, false, List, ◌∷◌, length, slice_index, if◌then◌else◌}
-use Rattle.std.proofs.Common.{[], Some, refl, sym, ap, subst, ◌∙◌, arith}
+use Rattle.std.proofs.Common.{◌≡◌, ◌≢◌, ℕ, zero, suc, ◌+◌, ◌<◌, ◌≤◌, ◌-◌, ◌==◌, nat_lt, true, false, List, ◌∷◌, length, slice_index, Some, refl, sym, ap, subst}
+use Rattle.std.proofs.Common.{◌∙◌, arith, []}
 use Rattle.std.proofs.lemmas.Bool.Decides.{nat_tests}
 use Rattle.std.proofs.lemmas.List.{length-map}
 use Rattle.first_pass_items.specs.declared.item.Item.{Item}
@@ -18,11 +18,7 @@ node_of start «end» body = record { start = start; «end» = «end»; body = b
 tight_run_depths : (depth : ℕ) (ns : List (ℕ × Item)) → depths (tight_run depth ns) ≡ depths ns
 unfolding tight_run
 tight_run_depths depth [] = refl
-tight_run_depths depth (n ∷ ns) = by (nat_lt depth n.0) (tight_run_depths depth ns)
-  where
-    by : (t : Bool) → depths (tight_run depth ns) ≡ depths ns → depths (if t then tightened (depth + 2) n ∷ tight_run depth ns else n ∷ ns) ≡ depths (n ∷ ns)
-    by true h = ap (λ ds. n.0 ∷ ds) h
-    by false h = refl
+tight_run_depths depth (n ∷ ns) = grind (arith, tight_run_depths depth ns)
 
 -- tightening changes no depth
 tight_at_depths : (depth i : ℕ) (ns : List (ℕ × Item)) → depths (tight_at depth i ns) ≡ depths ns
@@ -113,8 +109,7 @@ tight_same_body ns i b is = not_changed ns i _ b is (λ x e. ap (λ z. node_of x
 
 -- any body except a paragraph
 pub other_tight : (b : ItemBody) → (b ≡ Paragraph → ⊥) → tight_body b ≡ b
-other_tight Paragraph h = absurd (h refl)
-other_tight b h = refl
+other_tight b h = grind arith
 
 pub tight_from_depths : (f g : Forest Item) (depth at : ℕ) → g ≡ tight_from f depth at → depths g.nodes ≡ depths f.nodes
 tight_from_depths f g depth at e = ap (λ (v : Forest Item). depths v.nodes) e ∙ tight_at_depths depth at f.nodes

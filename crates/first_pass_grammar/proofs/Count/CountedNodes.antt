@@ -1,8 +1,8 @@
 -- The number of counted nodes in a list: no more than there are nodes; the same at another depth, or with
 -- changes that closing makes; and no more than its parts have together.
-use Rattle.std.proofs.Common.{◌≡◌, ℕ, zero, suc, ◌+◌, ◌≤◌, Bool, true, false, if◌then◌else◌, List, [], ◌∷◌, ◌++◌, length, Option, Some, None, refl, ap}
-use Rattle.std.proofs.Common.{arith, eq-eqb}
-use Rattle.first_pass_grammar.proofs.Common.{Item, ItemBody, TableCell, modify, at_depth, body_at, is_row, is_cell, is_inserted_after, own, counted_nodes}
+use Rattle.std.proofs.Common.{◌≡◌, ℕ, zero, suc, ◌+◌, ◌≤◌, Bool, true, false, if◌then◌else◌, List, ◌∷◌, ◌++◌, length, Option, Some, None, refl, ap, arith}
+use Rattle.std.proofs.Common.{eq-eqb, []}
+use Rattle.first_pass_grammar.proofs.Common.{Item, ItemBody, modify, at_depth, body_at, is_row, is_cell, is_inserted_after, own, counted_nodes}
 use Rattle.first_pass_grammar.specs.Counting.{last_cell}
 
 -- a node counts at most once
@@ -98,8 +98,7 @@ AreCellsAt start [] = Unit {0}
 AreCellsAt start (n ∷ nodes) = (is_cell n.1.body ≡ true) × (n.1.start ≡ start) × AreCellsAt start nodes
 
 cell_no_row : (b : ItemBody) → is_cell b ≡ true → is_row b ≡ false
-cell_no_row TableCell h = refl
-cell_no_row b h = cc
+cell_no_row b h = grind arith
 
 cell_next : (cell : Option ℕ) (start : ℕ) (x : Item) → is_cell x.body ≡ true → x.start ≡ start → last_cell cell x ≡ Some start
 cell_next cell start x is at = (let row = cell_no_row x.body is in rw (row, is) (ap Some at))

@@ -1,6 +1,6 @@
 -- The rows of a table are found by a count that falls: how many more cells may be inserted into them.
-use Rattle.std.proofs.Common.{◌≡◌, ◌⊎◌, inl, inr, ℕ, ◌-◌, ◌<◌, ◌≤◌, ◌&&◌, Bool, true, false, nat_lt, nat_le, List, [], ◌∷◌, ◌++◌, length, None, refl, sym, ap}
-use Rattle.std.proofs.Common.{subst, arith}
+use Rattle.std.proofs.Common.{◌≡◌, ◌⊎◌, inl, inr, ℕ, ◌-◌, ◌<◌, ◌≤◌, ◌&&◌, Bool, true, false, nat_lt, nat_le, List, ◌∷◌, ◌++◌, length, None, refl, sym, ap}
+use Rattle.std.proofs.Common.{subst, arith, []}
 use Rattle.first_pass_grammar.proofs.Common.{nat_tests, Item, TableRow, Place, Document, around, inserted, row_block, row_text, Taken, taking, FoundRow}
 use Rattle.first_pass_grammar.proofs.Common.{HasCells, TableSoFar, table_so_far, AreRows}
 use Rattle.first_pass_grammar.specs.declared.kind.Container.{Container}
@@ -54,9 +54,7 @@ rows_after table row rows = grind arith
 none_counted : (d : Document) (path : List Container) (table : TableSoFar) (lines : List Place) → EndRows d path table lines
     → RowsWithRoom d path table lines (taking [] lines)
 unfolding EndRows RowsWithRoom
-none_counted d path table [] h = refl
-none_counted d path table (line ∷ lines) (inl none) = inl (none, refl)
-none_counted d path table (line ∷ lines) (inr (row, has, over)) = inr (row, has, inl (none_of table row.cells over, refl))
+none_counted d path table lines h = grind (arith, none_of)
 
 all_counted : (d : Document) (path : List Container) (table : TableSoFar) (rows : List FoundRow) (lines left : List Place)
     → TakesRows d path table.braces rows lines left → all_inserted table.columns rows ≤ table.room → EndRows d path (with_rows table rows) left

@@ -1,6 +1,6 @@
 -- A property of leaf blocks, by their first body and the nodes below it, holds for each leaf block of a document.
-use Rattle.std.proofs.Common.{◌≡◌, ℕ, ◌-◌, ◌||◌, Bool, true, false, List, [], ◌∷◌, ◌++◌, length, drop, Option, Some, None, MatchOption, IfSome, refl, sym}
-use Rattle.std.proofs.Common.{ap, subst, arith}
+use Rattle.std.proofs.Common.{◌≡◌, ℕ, ◌-◌, ◌||◌, Bool, true, false, List, ◌∷◌, ◌++◌, length, drop, Option, Some, None, MatchOption, IfSome, refl, sym, ap}
+use Rattle.std.proofs.Common.{subst, arith, []}
 use Rattle.first_pass_grammar.proofs.Common.{or_right, slice_get_within, Alignment, HeadingLevel, Item, ItemBody, Rule, IndentCodeBlock, FencedCodeBlock}
 use Rattle.first_pass_grammar.proofs.Common.{MetadataBlock, HtmlBlock, TableHead, TableRow, TableCell, TaskListMarker, Text, SoftBreak, HardBreak, Html}
 use Rattle.first_pass_grammar.proofs.Common.{SynthesizeText, at_depth, block_of, level_number, Place, offset, start_of, no_braces, spot, is_markup}
@@ -60,12 +60,7 @@ pub record HoldsOfLeaves (d : Document) (At : Place → Type 0) (Inner : ItemBod
 
 module _ (d : Document) (Inner : ItemBody → Type 0) (P : List (ℕ × Item) → Type 0) (holds : HoldsOfBlocks d Inner P) where
   pub tokens : HoldsOfTokens d.names.texts Inner
-  tokens = record {
-    text = λ escaped. holds.later (Text escaped) refl tt;
-    soft = holds.later SoftBreak refl tt;
-    hard = λ by_backslash. holds.later (HardBreak by_backslash) refl tt;
-    markup = λ body is within. holds.later body (or_right (is_line_part body) (is_markup body) is) (markup_entered d.names body is within);
-  }
+  tokens = grind (arith, Text, SoftBreak, HardBreak, or_right, markup_entered)
 
   raw : HoldsOfRaw d.names.texts Inner
   raw = record { html = holds.later Html refl tt; columns = λ ix within. holds.later (SynthesizeText ix) refl within }

@@ -1,5 +1,5 @@
 -- A property of each token, and of rows and cells, holds for each node of a table's rows.
-use Rattle.std.proofs.Common.{inl, inr, ℕ, List, [], ◌∷◌, ◌++◌, take, replicate, sym, subst}
+use Rattle.std.proofs.Common.{inl, inr, ℕ, List, ◌∷◌, ◌++◌, take, replicate, sym, subst, []}
 use Rattle.first_pass_grammar.proofs.Common.{All-append, Item, ItemBody, TableRow, TableCell, at_depth, block_of, Place, Spot, spot, leaves, Names}
 use Rattle.first_pass_grammar.proofs.Common.{AreNamed, Document, cell_content, cell_start, cell_text, cell_block, AreCells, inserted, side_by_side}
 use Rattle.first_pass_grammar.proofs.Common.{row_cells, row_block, Taken, TableSoFar, AreRows, AreEachNode}

@@ -1,5 +1,5 @@
 -- A property of the bodies in leaf blocks holds for the items of each leaf block of a derived tree.
-use Rattle.std.proofs.Common.{◌≡◌, ℕ, ◌||◌, Bool, true, List, [], ◌∷◌, refl, sym, subst, arith}
+use Rattle.std.proofs.Common.{◌≡◌, ℕ, ◌||◌, Bool, true, List, ◌∷◌, refl, sym, subst, arith, []}
 use Rattle.first_pass_grammar.proofs.Common.{or_left, or_right, Item, ItemBody, Table, TaskListMarker, lines_at, nothing, is_row, is_cell, Tables, Derives}
 use Rattle.first_pass_grammar.proofs.Common.{Document, Line, level, Lines, AreEachNode}
 use Rattle.first_pass_grammar.proofs.Each.EachBlock.{is_first, is_later, HoldsOfBlocks, HoldsOfLeaves, table_nodes, openings}
@@ -17,8 +17,7 @@ abbrev pub is_inner : ItemBody → Bool
 is_inner body = is_later body || (is_row body || is_cell body)
 
 first_begins : (body : ItemBody) → is_first body ≡ true → begins_block body ≡ true
-first_begins (Table index) h = refl
-first_begins body h = h
+first_begins body h = grind arith
 
 -- there are no items; or the first is at depth 0 and has a body with one property, and each later one has the other
 -- property

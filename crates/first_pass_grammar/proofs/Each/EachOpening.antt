@@ -1,18 +1,16 @@
 -- A property of each leaf block, by how it begins, and one of the head of each container hold in a derived sequence.
-use Rattle.std.proofs.Common.{◌≡◌, ℕ, Bool, List, [], ◌∷◌, length, Option, Some, None, MatchOption, IfSome, refl, sym, subst, if◌then◌else◌, arith}
-use Rattle.first_pass_grammar.proofs.Common.{cond_both, has, gfm_footnotes, CowIndex, Item, ItemBody, TaskListMarker, Place, offset, Rest, indent, task_of}
-use Rattle.first_pass_grammar.proofs.Common.{Leaf, BlankLine, Block, Opener, FootnoteMarker, Head, label_of, opened, Skeleton, Nil, Then, Node, fence_judge}
-use Rattle.first_pass_grammar.proofs.Common.{metadata_judge, Context, at_rest, footnote_columns, in_containers, footnote_head_at, label_bytes, NamesLabel}
-use Rattle.first_pass_grammar.proofs.Common.{place_past, tag_judge, blank_judge, Kind, Blank, IndentedCode, Metadata, HtmlToEnd, HtmlToBlank, ThematicBreak}
-use Rattle.first_pass_grammar.proofs.Common.{AtxHeading, FencedCode, LinkDefinitions, IsKind, unindented, is_blank_rest, Document, around, kind_in}
-use Rattle.first_pass_grammar.proofs.Common.{lines_beyond, Ended, FlowsOn, Start, start_at, task_by, task_after, tag_after, Continues, Line, Blanks, AtPlace}
-use Rattle.first_pass_grammar.proofs.Common.{Anything, OnlyALeaf, TextOf, OnlyMark, after_marker, Opening, OpensLeaf, OpensNode, OpensText, OpensRun, OpensAs}
-use Rattle.first_pass_grammar.proofs.Common.{OpensBlockAt, only_task, after_tag, opening_by, opening_of, OpensBy, OpensFootnote, Opens, OpensAt, may_define}
-use Rattle.first_pass_grammar.proofs.Common.{Level, level_in, level_after_leaf, level_after, Remaining, Lines, InLine, onward, after_first, IsFirst}
-use Rattle.first_pass_grammar.proofs.Common.{IsSequence, Taken, IsText, holds_end, IsLast, GoesOn, extent_by, Extent, extent}
-use Rattle.first_pass_items.specs.OptionWords.{tasklists}
+use Rattle.std.proofs.Common.{◌≡◌, ℕ, Bool, List, ◌∷◌, length, Option, Some, None, MatchOption, IfSome, refl, sym, subst, arith, []}
+use Rattle.first_pass_grammar.proofs.Common.{cond_both, gfm_footnotes, CowIndex, Item, ItemBody, TaskListMarker, Place, offset, Rest, indent, Leaf, BlankLine}
+use Rattle.first_pass_grammar.proofs.Common.{Block, Opener, FootnoteMarker, Head, label_of, opened, Skeleton, Nil, Then, Node, fence_judge, metadata_judge}
+use Rattle.first_pass_grammar.proofs.Common.{Context, at_rest, footnote_columns, in_containers, footnote_head_at, label_bytes, NamesLabel, place_past}
+use Rattle.first_pass_grammar.proofs.Common.{tag_judge, blank_judge, Kind, Blank, IndentedCode, Metadata, HtmlToEnd, HtmlToBlank, ThematicBreak, AtxHeading}
+use Rattle.first_pass_grammar.proofs.Common.{FencedCode, LinkDefinitions, IsKind, unindented, is_blank_rest, Document, around, kind_in, lines_beyond, Ended}
+use Rattle.first_pass_grammar.proofs.Common.{FlowsOn, Start, start_at, task_by, tag_after, Continues, Line, Blanks, AtPlace, Anything, OnlyALeaf, TextOf}
+use Rattle.first_pass_grammar.proofs.Common.{OnlyMark, after_marker, Opening, OpensLeaf, OpensNode, OpensText, OpensRun, OpensAs, OpensBlockAt, only_task}
+use Rattle.first_pass_grammar.proofs.Common.{after_tag, opening_by, opening_of, OpensBy, OpensFootnote, Opens, OpensAt, may_define, Level, level_in}
+use Rattle.first_pass_grammar.proofs.Common.{level_after_leaf, level_after, Remaining, Lines, InLine, onward, after_first, IsFirst, IsSequence, Taken, IsText}
+use Rattle.first_pass_grammar.proofs.Common.{Extent, extent}
 use Rattle.first_pass_grammar.specs.declared.kind.AfterMarker.{AfterMarker}
-use Rattle.first_pass_grammar.specs.declared.kind.AfterMarker.TheVariants.{OnLine, TaskText, LineEnds, OnlyTag}
 use Rattle.first_pass_grammar.specs.declared.kind.Container.{Container}
 use Rattle.first_pass_grammar.specs.Kinds.{Paragraph}
 use Rattle.first_pass_grammar.specs.Skeleton.{Allowed, without_indent, OpensIf}
@@ -22,7 +20,6 @@ use Rattle.first_pass_grammar.proofs.Sequences.LinesLeft.{beyond_left, head_left
 use Rattle.first_pass_grammar.proofs.Sequences.OpenerFacts.{start_cases}
 use Rattle.first_pass_grammar.proofs.Sequences.PlacesKept.{HoldsAtEach, IsKeptLater, at_unindented, at_front, at_taken, at_quote, at_item, at_marker}
 use Rattle.first_pass_grammar.proofs.Sequences.PlacesKept.{extent_left, code_left, IsKeptBelow}
-use Rattle.first_pass_lines.specs.Places.{line_of}
 
 -- a property of the items of a leaf
 abbrev pub HoldsOfLeaf : (List (ℕ × Item) → Type 0) → Leaf → Type 0
@@ -83,40 +80,30 @@ pub record HoldsOfContainers (At : Place → Type 0) (M : ItemBody → Type 0) (
   pub plain : (head : Head) → label_of head.opener ≡ [] → Q head
 
 marker_from : (At : Place → Type 0) (M : ItemBody → Type 0) (blanks : Option ℕ) → HoldsFrom At M (after_marker blanks)
-marker_from At M None = tt
-marker_from At M (Some e) = tt
+marker_from At M blanks = grind arith
 
 pub first_from : (At : Place → Type 0) (M : ItemBody → Type 0) (from there : Continues) → HoldsFrom At M there → HoldsFrom At M (after_first from there)
-first_from At M (Blanks e) there k = tt
-first_from At M (AtPlace p (OnlyMark marker blanks)) there k = marker_from At M blanks
-first_from At M from there k = k
+first_from At M from there k = grind (arith, marker_from)
 
 no_label : (o : Opener) → label_of o ≡ [] → label_of (without_indent o) ≡ []
-no_label (FootnoteMarker columns index label) h = h
-no_label o h = refl
+no_label o h = grind arith
 
 module _ (d : Document) (At : Place → Type 0) (M : ItemBody → Type 0) (Q : Head → Type 0) (holds : HoldsOfContainers At M Q) where
   abbrev HoldsOfMark : Item → Type 0
   HoldsOfMark x = M x.body
 
   task_holds : (line : ℕ) (r : Rest) (o : Option (Bool × Rest)) → IfSome (task_by line r o).0 HoldsOfMark
-  task_holds line r None = tt
-  task_holds line r (Some task) = holds.task task.0
+  task_holds line r o = grind arith
 
   alone_from : (marker : Option Item) (p : Place) (blanks : Option ℕ) → IfSome marker HoldsOfMark → At p → HoldsFrom At M (only_task marker p blanks)
-  alone_from None p blanks h i = marker_from At M blanks
-  alone_from (Some marker) p blanks h i = (i, h)
+  alone_from marker p blanks h i = grind (arith, marker_from)
 
   tag_on : (c : Context) (lines : List Place) → HoldsAtEach At lines → HoldsOn At M (after_tag c lines)
-  tag_on c [] h = (tt, tt)
-  tag_on c (line ∷ lines) h = grind (arith, cond_both, at_front)
+  tag_on c lines h = grind (arith, cond_both, at_front)
 
   opening_holds : (path : List Container) (head : Head) (inside : Place) (lines : List Place) (after : AfterMarker) → label_of head.opener ≡ []
       → HoldsAfter HoldsOfMark after → At inside → HoldsAtEach At lines → OpensContainer At M Q (opening_by d path head inside lines after)
-  opening_holds path head inside lines OnLine none task i h = (holds.plain head none, (i, tt), h)
-  opening_holds path head inside lines (TaskText marker) none task i h = (holds.plain head none, (i, task), h)
-  opening_holds path head inside lines (LineEnds marker) none task i h = grind (arith, cond_both, no_label, alone_from)
-  opening_holds path head inside lines OnlyTag none task i h = grind (arith, tag_on)
+  opening_holds path head inside lines after none task i h = grind (arith, cond_both, no_label, alone_from, tag_on)
 
   -- the start of a container has no label
   abbrev IsStart : Place → Start → Type 0
@@ -125,12 +112,7 @@ module _ (d : Document) (At : Place → Type 0) (M : ItemBody → Type 0) (Q : H
   start_is : (may : Bool) (p : Place) → At p → (s : Start) → start_at d.options may p ≡ Some s → IsStart p s
   start_is may p i =
       start_cases d.options may p (IsStart p)
-      (λ item is. (
-        refl,
-        after_task_holds HoldsOfMark (is_blank_rest (task_after d.options p.line item.1).1) (task_after d.options p.line item.1).0
-            (task_holds p.line item.1 (if has d.options tasklists then task_of item.1 else None)),
-        at_item At holds.kept d.options p item is i,
-      ))
+      (λ item is. grind (arith, after_task_holds, task_holds, at_item))
       (λ marker none is. (refl, after_task_holds HoldsOfMark (is_blank_rest marker.1) None tt, at_marker At holds.kept p marker is i))
       (λ r none is. (refl, after_quote_holds HoldsOfMark (tag_after d.options r), at_quote At holds.kept p r is i))
 
@@ -155,10 +137,7 @@ module _ (d : Document) (At : Place → Type 0) (kept : IsKeptLater At) (L : Lis
       subst (LeavesLines L) (sym e) (refl, extent_left L further (in_containers path (metadata_judge byte)) (length d.text) lines h)
   leaf_lines path p lines HtmlToEnd o i h (until, found, (items, is, e)) =
       let rest : Extent = extent (in_containers path (tag_judge until)) (length d.text) lines in
-      let last = extent_left L further (in_containers path (tag_judge until)) (length d.text) lines h in
-      let left = cond_both (holds_end until (line_of (unindented p))) (IsLast (unindented p)) (GoesOn (unindented p))
-      (λ v. L (extent_by v (unindented p) lines rest).left) (λ b. h) (λ b. last) in
-      subst (LeavesLines L) (sym e) (refl, left)
+      let last = extent_left L further (in_containers path (tag_judge until)) (length d.text) lines h in grind (arith, cond_both)
   leaf_lines path p lines HtmlToBlank o i h (items, is, e) =
       subst (LeavesLines L) (sym e) (refl, extent_left L further (in_containers path blank_judge) (length d.text) lines h)
   leaf_lines path p lines (ThematicBreak size) o i h e = subst (LeavesLines L) (sym e) (refl, h)
@@ -193,15 +172,13 @@ module _ (d : Document) (At : Place → Type 0) (M : ItemBody → Type 0) (P : L
   Opened (OpensNode head inside following) = Q head × HoldsFrom At M inside × HoldsAtEach At following
 
   node_opened : (o : Opening) → OpensContainer At M Q o → Opened o
-  node_opened (OpensLeaf leaf there left) h = absurd h
-  node_opened (OpensNode head inside following) h = h
+  node_opened o h = grind arith
 
   abbrev kept : IsKeptLater At
   kept = holds.containers.kept
 
   leaf_opened : (o : Opening) → LeafHolds P o → LeavesLines (HoldsAtEach At) o → Opened o
-  leaf_opened (OpensLeaf leaf there left) own h = (own, subst (HoldsFrom At M) (sym h.0) tt, h.1)
-  leaf_opened (OpensNode head inside following) own h = absurd h
+  leaf_opened o own h = grind arith
 
   block_opened : (path : List Container) (p : Place) (lines : List Place) (o : Opening) → At p → HoldsAtEach At lines → OpensBlockAt d path p lines o → Opened o
   block_opened path p lines o i h (k, is, opens) =
@@ -252,11 +229,7 @@ module _ (d : Document) (At : Place → Type 0) (M : ItemBody → Type 0) (P : L
 
   begun : (path : List Container) (from : Continues) (lines : List Place) (p : Place) (following : List Place) → HoldsFrom At M from → HoldsAtEach At lines
       → BeginsAt path from lines p following → At p × HoldsAtEach At following
-  begun path Line [] p following from h begins = absurd begins
-  begun path Line (line ∷ lines) p following from h (is, same) = (at_taken At kept path line p is h.0, subst (HoldsAtEach At) (sym same) h.1)
-  begun path (Blanks e) [] p following from h begins = absurd begins
-  begun path (Blanks e) (line ∷ lines) p following from h (is, same) = (at_taken At kept path line p is h.0, subst (HoldsAtEach At) (sym same) h.1)
-  begun path (AtPlace q may) lines p following from h (is, same) = (subst At (sym is) from.0, subst (HoldsAtEach At) (sym same) h)
+  begun path from lines p following h5 h begins = grind (arith, at_taken)
 
   first_opened : (l : Level) (from : Continues) (lines : List Place) (o : Opening) → HoldsFrom At M from → HoldsAtEach At lines
       → IsFirst d l from lines o → Opened o
@@ -276,8 +249,7 @@ module _ (d : Document) (At : Place → Type 0) (M : ItemBody → Type 0) (P : L
   each_opened Nil l from lines left held h ends = (tt, tt, left_held l.path from lines left held h (leaves_at d.options l from lines left ends))
   each_opened (Then leaf next) l from lines left held h (there, mid, first, more) =
       let one = first_opened l from lines (OpensLeaf leaf there mid) held h first in
-      let rest = each_opened next (level_after_leaf l leaf) (after_first from there) mid left (first_from At M from there one.1) one.2 more in
-      ((one.0, rest.0), rest.1, rest.2)
+      grind (arith, first_from, each_opened next (level_after_leaf l leaf) (after_first from there) mid left (first_from At M from there one.1) one.2 more)
   each_opened (Node head e kids next) l from lines left held h (inside, following, mid, first, inner, is, more) =
       let one = first_opened l from lines (OpensNode head inside following) held h first in
       let below = each_opened kids (level_in (opened head.opener) l) inside following mid one.1 one.2 inner in

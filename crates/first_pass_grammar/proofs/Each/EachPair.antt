@@ -1,5 +1,5 @@
 -- A relation between the elements of two lists holds of their first elements, of copies, and of one list after another.
-use Rattle.std.proofs.Common.{ℕ, zero, suc, List, [], ◌∷◌, ◌++◌, take, replicate}
+use Rattle.std.proofs.Common.{ℕ, zero, suc, List, ◌∷◌, ◌++◌, take, replicate, []}
 use Rattle.first_pass_grammar.proofs.Common.{AllZip}
 
 module _ {A B : Type 0} (Related : A → B → Type 0) where

@@ -1,11 +1,10 @@
 -- A property of the items of each leaf block in a sequence holds for each leaf block in its rows.
-use Rattle.std.proofs.Common.{◌≡◌, ℕ, ◌==◌, Bool, true, false, List, [], ◌∷◌, length, map, Option, Some, None, if◌then◌else◌, option_map, arith}
+use Rattle.std.proofs.Common.{◌≡◌, ℕ, Bool, true, false, List, ◌∷◌, length, map, Option, Some, None, if◌then◌else◌, option_map, arith, []}
 use Rattle.first_pass_grammar.proofs.Common.{option_map_or, cond_both, Item, ItemBody, tight_body, tightened, Before, nothing, after_blank, after_block}
-use Rattle.first_pass_grammar.proofs.Common.{begins_paragraph, LeafBlock, BlankLine, Block, Opener, QuoteMarker, ItemMarker, FootnoteMarker}
-use Rattle.first_pass_grammar.proofs.Common.{DefinitionMarker, opened, Skeleton, Nil, Then, Node, is_quote, Tables, Derives, Document, What, ALeaf, ATitle}
-use Rattle.first_pass_grammar.proofs.Common.{Row, Rows, End, OneOf, gapped, Joins, continues_list, items_after}
-use Rattle.first_pass_grammar.proofs.Common.{list_after, what_of, row_of, container_row, row_of_leaf, Definitions, definitions_of_row, apart_after}
-use Rattle.first_pass_grammar.proofs.Common.{is_untitled, is_run_row, definitions_first, titled, rows_of, AreEachNode}
+use Rattle.first_pass_grammar.proofs.Common.{begins_paragraph, LeafBlock, BlankLine, Block, Opener, opened, Skeleton, Nil, Then, Node, is_quote, Tables}
+use Rattle.first_pass_grammar.proofs.Common.{Derives, Document, What, ALeaf, ATitle, Row, Rows, End, OneOf, gapped, Joins, items_after, list_after, what_of}
+use Rattle.first_pass_grammar.proofs.Common.{row_of, container_row, row_of_leaf, Definitions, definitions_of_row, apart_after, is_untitled, is_run_row}
+use Rattle.first_pass_grammar.proofs.Common.{definitions_first, titled, rows_of, AreEachNode}
 use Rattle.first_pass_grammar.proofs.Each.EachLeaf.{begins_block, is_inner, IsBlockOf, derived_leaves}
 use Rattle.first_pass_grammar.proofs.Each.EachOpening.{HoldsOfEachLeaf}
 
@@ -33,41 +32,31 @@ HoldsOfFirst P (Some ds) = HoldsOfEachRow P ds.items × HoldsOfEachRow P ds.besi
 module _ (P : List (ℕ × Item) → Type 0) where
   gapped_rows : (gap : Bool) (rows : Rows) → HoldsOfEachRow P rows → HoldsOfEachRow P (gapped gap rows)
   unfolding HoldsOfEachRow
-  gapped_rows gap End h = tt
-  gapped_rows gap (OneOf row inner next) h = h
+  gapped_rows gap rows h = grind arith
 
   -- the further items of a list, and the rows after it
   pub items_rows : (joins : Joins) (rows : Rows) → HoldsOfEachRow P rows → HoldsOfEachRow P (items_after joins rows)
   unfolding HoldsOfEachRow
-  items_rows joins End h = tt
-  items_rows joins (OneOf row inner next) h = grind (arith, cond_both, gapped_rows)
+  items_rows joins rows h = grind (arith, cond_both, gapped_rows)
 
   pub list_rows : (joins : Joins) (rows : Rows) → HoldsOfEachRow P rows → HoldsOfEachRow P (list_after joins rows)
   unfolding HoldsOfEachRow
-  list_rows joins End h = tt
-  list_rows joins (OneOf row inner next) h = cond_both (continues_list joins row.what) _ _ (HoldsOfEachRow P) (λ b. h.2) (λ b. h)
+  list_rows joins rows h = grind (arith, cond_both)
 
   -- a container before rows
   container_rows : (last : ℕ) (opener : Opener) (row : Row) (inner next : Rows) → HoldsOfRow P row.what inner → HoldsOfEachRow P inner
       → HoldsOfEachRow P next → HoldsOfEachRow P (container_row last opener row inner next)
   unfolding HoldsOfEachRow
-  container_rows last (QuoteMarker kind) row inner next own h k = (own, h, k)
-  container_rows last (ItemMarker byte number columns) row inner next own h k = grind (arith, items_rows, list_rows)
-  container_rows last (FootnoteMarker columns index label) row inner next own h k = (own, h, k)
-  container_rows last (DefinitionMarker columns) row inner next own h k = grind (arith, items_rows, list_rows)
+  container_rows last opener row inner next own h k = grind (arith, items_rows, list_rows)
 
   container_what : (opener : Opener) (e : ℕ) (inner : Rows) → HoldsOfRow P (what_of opener e) inner
-  container_what (QuoteMarker kind) e inner = tt
-  container_what opener e inner = tt
+  container_what opener e inner = grind arith
 
   -- definitions at the start of rows
   first_by : (t u : Bool) (row : Row) (inner next : Rows) (o : Option Definitions) → HoldsOfEachRow P (OneOf row inner next) → HoldsOfFirst P o
       → HoldsOfFirst P (if t then definitions_of_row row inner next else (if u then option_map (apart_after row inner) o else None))
   unfolding HoldsOfEachRow
-  first_by true u row inner next o h f = (gapped_rows row.gap inner h.1, h.2)
-  first_by false true row inner next None h f = tt
-  first_by false true row inner next (Some ds) h f = (f.0, (h.0, h.1, f.1))
-  first_by false false row inner next o h f = tt
+  first_by t u row inner next o h f = grind (arith, gapped_rows)
 
   pub first_rows : (rows : Rows) → HoldsOfEachRow P rows → HoldsOfFirst P (definitions_first rows)
   unfolding HoldsOfEachRow definitions_first
@@ -79,9 +68,7 @@ module _ (P : List (ℕ × Item) → Type 0) where
       → HoldsOfFirst P o → HoldsOfEachRow P next
       → HoldsOfEachRow P (option_map_or (titled block gap) (if p then o else None) (OneOf (row_of_leaf block gap) End next))
   unfolding HoldsOfEachRow
-  titled_rows block gap true (Some ds) next is h f k = (tt, ((h, tt, is), tt, f.0), f.1)
-  titled_rows block gap true None next is h f k = ((h, tt), tt, k)
-  titled_rows block gap false o next is h f k = ((h, tt), tt, k)
+  titled_rows block gap p o next is h f k = grind arith
 
   -- the rows of a sequence have the property
   pub each_row : (quoted : Bool) (before : Before) (last : ℕ) (s : Skeleton) → HoldsOfEachLeaf P s → HoldsOfEachRow P (rows_of quoted before last s)
@@ -104,5 +91,4 @@ derived_rows Own Inner d forest tables own inner h =
 module _ (P : ItemBody → Type 0) (tight : (body : ItemBody) → P body → P (tight_body body)) where
   pub tight_nodes : (depth : ℕ) (nodes : List (ℕ × Item)) → AreEachNode P nodes → AreEachNode P (map (tightened depth) nodes)
   tight_nodes depth [] h = tt
-  tight_nodes depth (n ∷ nodes) h =
-      (cond_both (n.0 == depth) _ _ (λ (x : Item). P x.body) (λ b. tight n.1.body h.0) (λ b. h.0), tight_nodes depth nodes h.1)
+  tight_nodes depth (n ∷ nodes) h = grind (arith, cond_both, Item, tight_nodes depth nodes h.1)

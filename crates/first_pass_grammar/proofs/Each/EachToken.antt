@@ -1,12 +1,12 @@
 -- A property of each token holds for each item in the chain of a paragraph, a heading or a cell, and in raw lines.
-use Rattle.std.proofs.Common.{◌≡◌, inl, inr, ℕ, zero, suc, ◌+◌, ◌<◌, ◌==◌, ◌&&◌, Bool, true, false, nat_lt, nat_le, min, List, [], ◌∷◌, ◌++◌, length, Option}
-use Rattle.std.proofs.Common.{Some, None, IfSome, sym, subst, refl, arith}
+use Rattle.std.proofs.Common.{◌≡◌, inl, inr, ℕ, zero, suc, ◌+◌, ◌<◌, ◌==◌, Bool, true, false, nat_lt, min, List, ◌∷◌, ◌++◌, length, Option, Some, None, IfSome}
+use Rattle.std.proofs.Common.{sym, subst, refl, arith, []}
 use Rattle.first_pass_grammar.proofs.Common.{cond_both, slice_get_within, CowStr, CowIndex, Item, ItemBody, Text, SoftBreak, HardBreak, MaybeEmphasis, Html}
-use Rattle.first_pass_grammar.proofs.Common.{SynthesizeText, is_escaped, Place, offset, line_end, Piece, Token, Inline, found_at, MathBraces, Spot, spot}
-use Rattle.first_pass_grammar.proofs.Common.{add_pieces, AreLineTokens, IsCell, touches, add_token, add_tokens, add_text, is_backslash_break, close_break}
-use Rattle.first_pass_grammar.proofs.Common.{cut, is_markup, at_rest, front, unindented, Document, content_at, add_break, heading_content, heading_chain}
-use Rattle.first_pass_grammar.proofs.Common.{IsHeading, marker_items, TextLines, AreTextLines, AreColumns, Ranges, range_text, range_html, raw_items}
-use Rattle.first_pass_grammar.proofs.Common.{IsRawLine, AreRawLines, text_children, by_backslash, children_without, heading_children, Braces, HeadingIndex}
+use Rattle.first_pass_grammar.proofs.Common.{SynthesizeText, Place, offset, line_end, Piece, Token, Inline, found_at, MathBraces, Spot, spot, add_pieces}
+use Rattle.first_pass_grammar.proofs.Common.{AreLineTokens, IsCell, touches, add_token, add_tokens, add_text, is_backslash_break, close_break, cut, is_markup}
+use Rattle.first_pass_grammar.proofs.Common.{at_rest, front, unindented, Document, content_at, add_break, heading_content, heading_chain, IsHeading}
+use Rattle.first_pass_grammar.proofs.Common.{marker_items, TextLines, AreTextLines, AreColumns, Ranges, range_text, range_html, raw_items, IsRawLine}
+use Rattle.first_pass_grammar.proofs.Common.{AreRawLines, text_children, by_backslash, children_without, heading_children, Braces, HeadingIndex}
 use Rattle.first_pass_tokens.specs.declared.pieces.Piece.TheVariants.{Left, Begins, Run}
 use Rattle.first_pass_tokens.specs.Pieces.{size}
 use Rattle.first_pass_tokens.specs.Braces.{braces_after}
@@ -66,8 +66,7 @@ module _ (P : ItemBody → Type 0) (text : (escaped : Bool) → P (Text escaped)
   closed_each (Some x) chain h = cond_both (is_backslash_break x.body) _ _ (AreEach P) (λ b. text_each x.start (x.start + 1) false chain h) (λ b. h)
 
   pub marked_each : (marker : Option Item) (chain : List Item) → IfSome marker (λ x. P x.body) → AreEach P chain → AreEach P (marker_items marker ++ chain)
-  marked_each None chain h k = k
-  marked_each (Some x) chain h k = (h, k)
+  marked_each marker chain h k = grind arith
 
   pub children_each : (marker : Option Item) (t : TextLines) → IfSome marker (λ x. P x.body) → AreEach P t.chain → AreEach P (text_children marker t)
   children_each marker t h k = marked_each marker (close_break t.break t.chain) h (closed_each t.break t.chain k)
@@ -75,10 +74,7 @@ module _ (P : ItemBody → Type 0) (text : (escaped : Bool) → P (Text escaped)
   -- the chain of a heading
   cut_each : (e : ℕ) (chain : List Item) → AreEach P chain → AreEach P (cut e chain)
   cut_each e [] h = tt
-  cut_each e (x ∷ xs) h =
-      cond_both (nat_lt x.start e) _ _ (AreEach P)
-      (λ b. (cond_both (nat_lt e x.«end») _ _ (λ (y : Item). P y.body) (λ t. h.0) (λ t. h.0), cut_each e xs h.1))
-      (λ b. cond_both (is_escaped x.body && (x.start == e)) _ _ (AreEach P) (λ t. (text false, tt)) (λ t. tt))
+  cut_each e (x ∷ xs) h = grind (arith, cond_both, Item, cut_each e xs h.1)
 
   heading_chain_each : (kept start : ℕ) (chain : List Item) → AreEach P chain → AreEach P (heading_chain kept start chain)
   unfolding heading_chain
@@ -98,8 +94,7 @@ module _ (P : ItemBody → Type 0) (text : (escaped : Bool) → P (Text escaped)
 -- breaks
 module _ (P : ItemBody → Type 0) (soft : P SoftBreak) (hard : (by_backslash : Bool) → P (HardBreak by_backslash)) where
   break_of_each : (end next : ℕ) (by_backslash : Bool) (blanks : ℕ) → P (break_of end next by_backslash blanks).body
-  break_of_each end next true blanks = hard true
-  break_of_each end next false blanks = cond_both (nat_le 2 blanks) _ _ (λ (y : Item). P y.body) (λ b. hard false) (λ b. soft)
+  break_of_each end next by_backslash blanks = grind (arith, cond_both, Item)
 
   line_break_each : (s : Inline) (end : ℕ) → IfSome (line_break s end) (λ y. P y.body)
   unfolding line_break
@@ -168,8 +163,7 @@ module _ (P : ItemBody → Type 0) (d : Document) (holds : HoldsOfTokens d.names
 -- raw lines
 module _ (P : ItemBody → Type 0) (d : Document) (raw : HoldsOfRaw d.names.texts P) where
   columns_each : (owed at : ℕ) (items : List Item) → AreColumns d.names owed at items → AreEach P items
-  columns_each zero at items is = subst (AreEach P) (sym is) tt
-  columns_each (suc n) at items (ix, (named, at_ix, text), is) = grind (arith, slice_get_within)
+  columns_each owed at items is = grind (arith, slice_get_within)
 
   pub range_html_each : (a b : ℕ) → AreEach P (range_html a b)
   range_html_each a b = (raw.html, tt)

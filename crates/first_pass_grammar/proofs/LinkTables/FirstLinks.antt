@@ -1,6 +1,6 @@
 -- A table that takes link reference definitions in order finds the same entries as the definitions in the order of the
 -- text, and one that takes the labels of footnote definitions finds their first spellings.
-use Rattle.std.proofs.Common.{◌≡◌, ℕ, cond, List, [], ◌∷◌, Some, find, nat_eq, map-id, refl, sym, ap, subst, ◌∙◌, arith}
+use Rattle.std.proofs.Common.{◌≡◌, ℕ, cond, List, ◌∷◌, Some, find, nat_eq, map-id, refl, sym, ap, subst, ◌∙◌, arith, []}
 use Rattle.first_pass_grammar.proofs.Common.{folded, LinkEntry, with_link, with_links, with_label, with_labels}
 use Rattle.std.specs.Cmp.Lexicographic.{pointwise}
 use Rattle.std.specs.List.Sorted.{IsStrictlySortedBy}

@@ -1,6 +1,5 @@
 -- Indices keep what they name when names are added.
-use Rattle.std.proofs.Common.{◌≡◌, ℕ, zero, suc, ◌<◌, List, ◌∷◌, ◌++◌, length, slice_get, Option, Some, None, refl, ap, ◌∙◌, arith, []}
-use Rattle.std.proofs.Common.{append_assoc, append-nil}
+use Rattle.std.proofs.Common.{◌≡◌, ℕ, zero, suc, ◌<◌, List, ◌∷◌, ◌++◌, length, slice_get, Option, Some, refl, ap, ◌∙◌, arith, append_assoc, append-nil, []}
 use Rattle.first_pass_grammar.proofs.Common.{slice_get_within, CowStr, Alignment, AlignmentIndex, CowIndex, HeadingIndex, Attributes, AreMore, Names}
 use Rattle.first_pass_grammar.proofs.Common.{NamesAlignments, NamesAttributes, Extends}
 use Rattle.first_pass_grammar.specs.Names.{with_named, with_alignments, with_heading, alignments_named}
@@ -13,14 +12,7 @@ extends_none names =
 
 -- names that extend names that extend names
 pub extends_both : (new mid old : Names) → Extends new mid → Extends mid old → Extends new old
-extends_both new mid old e f = record {
-  more_texts = f.more_texts ++ e.more_texts;
-  texts = rw (e.texts, f.texts, append_assoc);
-  more_alignments = f.more_alignments ++ e.more_alignments;
-  alignments = rw (e.alignments, f.alignments, append_assoc);
-  more_headings = f.more_headings ++ e.more_headings;
-  headings = rw (e.headings, f.headings, append_assoc);
-}
+extends_both new mid old e f = grind (arith, append_assoc)
 
 -- one more text, the alignments of one more table, and the attributes of one more heading
 pub extends_named : (old new : Names) (cow : CowStr) → new ≡ with_named old cow → Extends new old
@@ -59,9 +51,7 @@ still_aligned new old ix alignments e h = still_there new.alignments old.alignme
 
 pub still_given : (new old : Names) (ix : Option HeadingIndex) (attributes : Option Attributes) → Extends new old → NamesAttributes old ix attributes
     → NamesAttributes new ix attributes
-still_given new old None None e h = tt
-still_given new old (Some ix) (Some attributes) e h = still_there new.headings old.headings e.more_headings ix.0 attributes e.headings h
-still_given new old ix attributes e h = absurd h
+still_given new old ix attributes e h = grind (arith, still_there)
 
 -- an index of alignments that names an entry still names the same one
 pub alignments_kept : (new old : Names) (ix : AlignmentIndex) → Extends new old → ix.0 < length old.alignments

@@ -1,10 +1,9 @@
 -- Each index in nodes names an entry: what keeps that, and chains and blocks with that property.
-use Rattle.std.proofs.Common.{◌≡◌, ℕ, zero, suc, true, List, ◌∷◌, ◌++◌, length, Option, Some, None, refl, sym, ap, subst, ◌∙◌, [], arith, length-append}
-use Rattle.std.proofs.Common.{option_map}
+use Rattle.std.proofs.Common.{◌≡◌, ℕ, zero, suc, true, List, ◌∷◌, ◌++◌, Option, None, refl, sym, subst, arith, length-append, option_map, []}
 use Rattle.first_pass_grammar.proofs.Common.{slice_get_within, Item, ItemBody, modify, at_depth, Attributes, HeadingIndex, Place, leaves, Names}
-use Rattle.first_pass_grammar.proofs.Common.{NamesAttributes, Extends, TextAt, index_of, NamesEntry, AreNamed, Document, block_with, Ranges, range_text}
-use Rattle.first_pass_grammar.proofs.Common.{range_html, AreRawLines, SynthesizeText, is_markup}
-use Rattle.first_pass_grammar.specs.Names.{Index, AlignmentsAt, AttributesAt}
+use Rattle.first_pass_grammar.proofs.Common.{NamesAttributes, Extends, index_of, NamesEntry, AreNamed, Document, block_with, Ranges, range_text, range_html}
+use Rattle.first_pass_grammar.proofs.Common.{AreRawLines, is_markup}
+use Rattle.first_pass_grammar.specs.Names.{Index, AttributesAt}
 use Rattle.first_pass_grammar.proofs.Names.TokensNamed.{NamesWithin}
 use Rattle.first_pass_grammar.proofs.Each.EachToken.{AreEach, HoldsOfTokens, HoldsOfRaw, range_text_each, raw_lines_each}
 use Rattle.first_pass_grammar.proofs.Names.NoIndex.{IsWithoutIndex, HaveNoIndex, markup_textual}
@@ -15,10 +14,7 @@ IsNamed names x = NamesEntry names (index_of x.body)
 
 -- more entries
 entry_more : (new old : Names) (o : Option Index) → Extends new old → NamesEntry old o → NamesEntry new o
-entry_more new old None e h = tt
-entry_more new old (Some (TextAt ix)) e h = (let size = ap length e.texts ∙ length-append old.texts e.more_texts in omega arith)
-entry_more new old (Some (AlignmentsAt ix)) e h = (let size = ap length e.alignments ∙ length-append old.alignments e.more_alignments in omega arith)
-entry_more new old (Some (AttributesAt ix)) e h = (let size = ap length e.headings ∙ length-append old.headings e.more_headings in omega arith)
+entry_more new old o e h = grind (arith, length-append)
 
 pub named_more : (new old : Names) (nodes : List (ℕ × Item)) → Extends new old → AreNamed old nodes → AreNamed new nodes
 unfolding AreNamed
@@ -47,16 +43,14 @@ named_modified names (n ∷ nodes) (suc i) g keeps h = (h.0, named_modified name
 
 -- a body without an index
 pub free_entry : (names : Names) (o : Option Index) → o ≡ None → NamesEntry names o
-free_entry names None h = tt
-free_entry names (Some ix) h = cc
+free_entry names o h = grind arith
 
 -- a body whose index, if it has one, names an entry
 abbrev pub HasEntry : Names → ItemBody → Type 0
 HasEntry names body = NamesEntry names (index_of body)
 
 pub markup_entered : (names : Names) (body : ItemBody) → is_markup body ≡ true → NamesWithin names.texts body → HasEntry names body
-markup_entered names (SynthesizeText ix) h k = k
-markup_entered names body h k = free_entry names (index_of body) (markup_textual names.texts body h k)
+markup_entered names body h k = grind (arith, free_entry, markup_textual)
 
 -- the tokens of lines have this property
 pub tokens_entered : (names : Names) → HoldsOfTokens names.texts (HasEntry names)
@@ -97,9 +91,7 @@ lines_named range d chain places whole free h is =
 -- the index of a heading, if it has one, names an entry
 pub given_entry : (names : Names) (ix : Option HeadingIndex) (attributes : Option Attributes) → NamesAttributes names ix attributes
     → NamesEntry names (option_map AttributesAt ix)
-given_entry names None attributes h = tt
-given_entry names (Some ix) None h = absurd h
-given_entry names (Some ix) (Some attributes) h = slice_get_within names.headings ix.0 attributes h
+given_entry names ix attributes h = grind (arith, slice_get_within)
 
 -- a block with a chain
 pub block_named : (names : Names) (start stop : ℕ) (body : ItemBody) (chain : List Item) (items : List (ℕ × Item))

@@ -1,5 +1,5 @@
 -- Items without an index read alike under all names; the tokens of lines have no indices except those of texts.
-use Rattle.std.proofs.Common.{◌≡◌, true, List, [], ◌∷◌, map, None, refl}
+use Rattle.std.proofs.Common.{◌≡◌, true, List, ◌∷◌, map, None, refl, []}
 use Rattle.first_pass_grammar.proofs.Common.{false≢true, CowStr, Item, ItemBody, SynthesizeText, FencedCodeBlock, FootnoteDefinition, Table, Heading}
 use Rattle.first_pass_grammar.proofs.Common.{is_markup, Names, index_of, read}
 use Rattle.first_pass_grammar.proofs.Each.EachToken.{AreEach, HoldsOfTokens}

@@ -1,6 +1,6 @@
 -- Each index in the items of a leaf block names an entry: for a table alignments, for a heading attributes, and for a
 -- token or a code block a text.
-use Rattle.std.proofs.Common.{◌≡◌, ℕ, ◌||◌, Bool, true, List, Option, IfSome, sym, subst}
+use Rattle.std.proofs.Common.{◌≡◌, ℕ, ◌||◌, Bool, true, List, Option, IfSome, arith}
 use Rattle.first_pass_grammar.proofs.Common.{false≢true, slice_get_within, Item, ItemBody, TableHead, TableRow, TableCell, block_of, Place, leaf_block}
 use Rattle.first_pass_grammar.proofs.Common.{is_row, is_cell, Kind, Document, Names, AreNamed, index_of, Line, OpensLeaf, OpensAs, Taken, IsText}
 use Rattle.std.proofs.lemmas.Option.{IfSome_then}
@@ -32,9 +32,7 @@ leaves_named d = record {
   kept = anywhere_kept;
   table = λ path p alignments lines t i headed h.
       let kids = table_nodes d (HasEntry d.names) (AreNamed d.names) (blocks_named d) (cells_entered d.names) path p alignments lines t h in
-      let entry = slice_get_within d.names.alignments h.index.0 alignments h.named in
-      subst (AreNamed d.names) (sym h.items_are)
-      (nodes_named d.names _ (entry, kids));
+      grind (arith, slice_get_within, nodes_named);
 }
 
 pub text_named : (d : Document) (path : List Container) (p : Place) (marker : Option Item) (lines : List Place) (t : Taken) → IfSome marker HasNoIndex

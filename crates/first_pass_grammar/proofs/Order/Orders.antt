@@ -1,6 +1,6 @@
 -- Siblings and their ranges while nodes are added, opened and closed.
-use Rattle.std.proofs.Common.{◌≡◌, inl, inr, ℕ, zero, suc, ◌+◌, ◌-◌, ◌*◌, ◌<◌, ◌≤◌, Bool, true, false, if◌then◌else◌, List, [], ◌∷◌, ◌++◌, length, Some, None}
-use Rattle.std.proofs.Common.{IsCharBoundary, refl, sym, ap, ◌∙◌, arith, append_assoc, append-nil, nat_le, leb-true}
+use Rattle.std.proofs.Common.{◌≡◌, inl, inr, ℕ, zero, suc, ◌+◌, ◌-◌, ◌*◌, ◌<◌, ◌≤◌, Bool, true, false, if◌then◌else◌, List, ◌∷◌, ◌++◌, length, Some, None}
+use Rattle.std.proofs.Common.{IsCharBoundary, refl, sym, ap, ◌∙◌, arith, append_assoc, append-nil, nat_le, []}
 use Rattle.first_pass_grammar.proofs.Common.{map-append, length-map, Item, ItemBody, TreeIndex, modify, at_depth, body_at, block_of, at_depth-append}
 use Rattle.first_pass_grammar.proofs.Common.{AreInOrder, leaves, order_bound, Ranged, extent_of, extents, Siblings, Empty, laid, IsBetween, Within, Elsewhere}
 use Rattle.first_pass_grammar.proofs.Common.{InItem, InText, InFirst, below, beyond, IsLead, Fits, FitsBetween, laid_open, AreAt, open_within, FitsOpen}
@@ -41,9 +41,7 @@ laid-beside depth (Node x kids next) more = rw (laid-beside depth next more, app
 pub laid-at_depth : (d k : ℕ) (row : Siblings) → at_depth d (laid k row) ≡ laid (d + k) row
 unfolding laid
 laid-at_depth d k Empty = refl
-laid-at_depth d k (Node x kids next) =
-    let one : d + suc k ≡ suc (d + k) = omega arith in
-    rw (at_depth-append d (laid (suc k) kids) (laid k next), laid-at_depth d (suc k) kids, laid-at_depth d k next, one)
+laid-at_depth d k (Node x kids next) = grind (arith, at_depth-append, laid-at_depth d (suc k) kids, laid-at_depth d k next)
 
 -- a single sibling
 pub laid-one : (depth : ℕ) (x : Ranged) → laid depth (Node x Empty Empty) ≡ (depth, x) ∷ []
@@ -73,9 +71,7 @@ laid_open-level root level levels row = refl
 pub laid_open-popped : (root x : Ranged) (levels : List (Siblings × Ranged)) (before row : Siblings)
     → laid_open root levels (beside before (Node x row Empty)) ≡ laid_open root levels before ++ (suc (length levels), x) ∷ laid (suc (suc (length levels))) row
 unfolding laid
-laid_open-popped root x levels before row =
-    laid_open-beside root levels before (Node x row Empty)
-    ∙ ap (λ (z : List (ℕ × Ranged)). laid_open root levels before ++ (suc (length levels), x) ∷ z) (append-nil (laid (suc (suc (length levels))) row))
+laid_open-popped root x levels before row = grind (arith, laid_open-beside, append-nil)
 
 -- the root with the nodes below it, if no other node is open
 pub laid_open-root : (root : Ranged) (row : Siblings) → laid_open root [] row ≡ laid 0 (Node root row Empty)
@@ -105,8 +101,7 @@ between-earlier text a b to x more h = grind arith
 pub fits-later : (text : List ℕ) (w : Within) (from a b : ℕ) (row : Siblings) → a ≤ b → Fits text w from a row → Fits text w from b row
 unfolding Fits
 fits-later text w from a b Empty more h = let t : from ≤ a = h in omega arith
-fits-later text w from a b (Node x kids next) more (inl (h, k, n)) =
-    inl (between-later text from a b x more h, k, fits-later text (beyond w) x.«end» a b next more n)
+fits-later text w from a b (Node x kids next) more (inl (h, k, n)) = grind (arith, between-later, fits-later text (beyond w) x.«end» a b next more n)
 fits-later text w from a b (Node x kids next) more (inr (l, k, n)) = inr (l, k, fits-later text Elsewhere from a b next more n)
 
 -- what may be in the first place may be in the second: a task list item marker that may start from an offset on may do
@@ -128,9 +123,7 @@ wider_beyond w v h = grind (arith, nat_tests)
 
 -- a task list item marker that may be first in a place may be first in a wider one
 wider_lead : (text : List ℕ) (w v : Within) (from : ℕ) (x : Ranged) → is_wider w v ≡ true → IsLead text w from x → IsLead text v from x
-wider_lead text (InText b) (InText a) from x h lead = (lead.0, between-earlier text a b from x (leb-true a b h) lead.1)
-wider_lead text (InText b) v from x h lead = absurd (false≢true h)
-wider_lead text w v from x h lead = absurd lead
+wider_lead text w v from x h lead = grind (arith, between-earlier, false≢true)
 
 -- siblings that fit in a place also fit in a wider one
 fits-wider : (text : List ℕ) (w v : Within) (from to : ℕ) (row : Siblings) → is_wider w v ≡ true → Fits text w from to row → Fits text v from to row
@@ -156,8 +149,7 @@ beyond-again text w from to row h = fits-wider text (beyond w) (beyond (beyond w
 
 following-lead : (text : List ℕ) (w : Within) (at from to : ℕ) (x : Ranged) (row : Siblings)
     → IsLead text w at x → Fits text (beyond w) from to row → Fits text Elsewhere from to row
-following-lead text (InText before) at from to x row l h = h
-following-lead text w at from to x row l h = absurd l
+following-lead text w at from to x row l h = grind arith
 
 earlier_by : (text : List ℕ) (w : Within) (a b to : ℕ) (row : Siblings) → is_wider w w ≡ true
     → ((x : Ranged) → IsLead text w b x → ⊥) → a ≤ b → Fits text w b to row → Fits text w a to row
@@ -173,9 +165,7 @@ earlier_by text w a b to (Node x kids next) wide none more (inr (l, k, n)) = abs
 
 -- siblings fit from an earlier offset on
 fits-earlier : (text : List ℕ) (w : Within) (a b to : ℕ) (row : Siblings) → a ≤ b → Fits text (beyond w) b to row → Fits text (beyond w) a to row
-fits-earlier text Elsewhere a b to row more h = earlier_by text Elsewhere a b to row refl (λ x l. l) more h
-fits-earlier text InItem a b to row more h = earlier_by text InItem a b to row refl (λ x l. l) more h
-fits-earlier text w a b to row more h = earlier_by text Elsewhere a b to row refl (λ x l. l) more h
+fits-earlier text w a b to row more h = grind (arith, earlier_by)
 
 -- siblings fit after others
 pub fits-beside : (text : List ℕ) (w : Within) (from mid to : ℕ) (row more : Siblings)
@@ -183,11 +173,7 @@ pub fits-beside : (text : List ℕ) (w : Within) (from mid to : ℕ) (row more :
 unfolding Fits
 fits-beside text w from mid to Empty more h following = grind (arith, fits-beyond, fits-earlier)
 fits-beside text w from mid to (Node x kids next) more (inl (h, k, n)) following =
-    inl (
-      between-later text from mid to x (fits-order text (beyond w) mid to more following) h,
-      k,
-      fits-beside text (beyond w) x.«end» mid to next more n (beyond-again text w mid to more following),
-    )
+    grind (arith, between-later, fits-order, beyond-again, fits-beside text (beyond w) x.«end» mid to next more n (beyond-again text w mid to more following))
 fits-beside text w from mid to (Node x kids next) more (inr (l, k, n)) following =
     inr (l, k, fits-beside text Elsewhere from mid to next more n (following-lead text w from mid to x more l following))
 
@@ -212,15 +198,7 @@ beyond_below w before x = grind (arith, nat_tests)
 pub fits_open-beside : (text : List ℕ) (mid to : ℕ) (levels : List (Siblings × Ranged)) (row more : Siblings)
     → FitsOpen text mid levels row → Fits text (open_within levels) mid to more → FitsOpen text to levels (beside row more)
 unfolding FitsOpen
-fits_open-beside text mid to [] row more h following = fits-beside text Elsewhere 0 mid to row more h following
-fits_open-beside text mid to (level ∷ levels) row more (before, m, h, starts, rest) following = (
-  before,
-  m,
-  fits-beside text (below (open_within levels) before level.1) level.1.start mid to row more h
-      (fits-wider text _ _ mid to more (beyond_below (open_within levels) before level.1) following),
-  starts,
-  rest,
-)
+fits_open-beside text mid to levels row more h following = grind (arith, fits-beside, fits-wider, beyond_below)
 
 -- a node that is opened fits
 pub fits_open-pushed : (text : List ℕ) (a : ℕ) (x : Ranged) (levels : List (Siblings × Ranged)) (row : Siblings)
@@ -230,8 +208,7 @@ fits_open-pushed text a x levels row more starts h = let t : x.start ≤ x.start
 
 -- another end does not change what may be below a node
 pub below_ended : (w : Within) (before : ℕ) (x : Ranged) (e : ℕ) → below w before (ended_at x e) ≡ below w before x
-below_ended Elsewhere before x e = refl
-below_ended w before x e = refl
+below_ended w before x e = grind arith
 
 -- the innermost open node fits after it is closed
 pub fits_open-popped : (text : List ℕ) (at e : ℕ) (level : Siblings × Ranged) (levels : List (Siblings × Ranged)) (row : Siblings)
@@ -250,8 +227,7 @@ extents-modify (n ∷ nodes) (suc k) e = ap (λ z. (n.0, extent_of n.1) ∷ z) (
 pub extents-ended : (nodes : List (ℕ × Item)) (before : List (ℕ × Ranged)) (n : ℕ × Ranged) (more : List (ℕ × Ranged)) (k e : ℕ)
     → extents nodes ≡ before ++ n ∷ more → k ≡ length before
     → extents (modify nodes k (λ x. record x { «end» = e })) ≡ before ++ (n.0, ended_at n.1 e) ∷ more
-extents-ended nodes before n more k e is at =
-    extents-modify nodes k e ∙ ap (λ z. modify z k (λ x. ended_at x e)) is ∙ modify-at before more n k (λ x. ended_at x e) at
+extents-ended nodes before n more k e is at = grind (arith, extents-modify, modify, modify-at)
 
 -- a change at a place that keeps the extent
 pub extents-kept : (nodes : List (ℕ × Item)) (k : ℕ) (g : Item → Item) (b : ItemBody)
@@ -276,17 +252,12 @@ row_of (x ∷ xs) = Node (extent_of x) Empty (row_of xs)
 pub row_of-laid : (k : ℕ) (chain : List Item) → extents (at_depth k (leaves chain)) ≡ laid k (row_of chain)
 unfolding laid row_of
 row_of-laid k [] = refl
-row_of-laid k (x ∷ xs) =
-    let none : k + 0 ≡ k = omega arith in
-    let later = row_of-laid k xs in
-    λ i. (none i, extent_of x) ∷ later i
+row_of-laid k (x ∷ xs) = grind (arith, row_of-laid k xs)
 
 pub row_of-fits : (text : List ℕ) (w : Within) (from to : ℕ) (chain : List Item) → AreInOrder text from to chain → Fits text w from to (row_of chain)
 unfolding Fits row_of
 row_of-fits text w from to [] h = h
-row_of-fits text w from to (x ∷ xs) h =
-    let later = order_bound text x.«end» to xs h.4 in
-    inl (record { following = h.0; order = h.1; before = later; starts = h.2; ends = h.3 }, h.1, row_of-fits text (beyond w) x.«end» to xs h.4)
+row_of-fits text w from to (x ∷ xs) h = grind (arith, order_bound, row_of-fits text (beyond w) x.«end» to xs h.4)
 
 -- a block that fits elsewhere fits anywhere
 pub between-any : (text : List ℕ) (w : Within) (from to : ℕ) (items : List (ℕ × Item))

@@ -1,6 +1,6 @@
 -- A row ends where its line does, and each of its cells takes at least one byte.
-use Rattle.std.proofs.Common.{◌≡◌, inl, inr, ℕ, ◌+◌, ◌-◌, ◌<◌, ◌≤◌, ◌==◌, Bool, true, false, true≢false, List, [], ◌∷◌, length, drop, slice_index, refl, sym}
-use Rattle.std.proofs.Common.{ap, subst, ◌∙◌, arith, length-drop, eqb-true, drop-drop}
+use Rattle.std.proofs.Common.{◌≡◌, inl, inr, ℕ, ◌+◌, ◌-◌, ◌<◌, ◌≤◌, ◌==◌, Bool, true, false, true≢false, List, ◌∷◌, length, drop, slice_index, sym, ap, subst}
+use Rattle.std.proofs.Common.{◌∙◌, arith, length-drop, drop-drop, []}
 use Rattle.first_pass_grammar.proofs.Common.{prefix_len, cases_lt, and_parts, nat_tests, get_or_past, at_drop_all, at_drop_more, pipe, has, tables, Item}
 use Rattle.first_pass_grammar.proofs.Common.{is_line_end, is_content, is_white, at_line_end, line_len, Place, line_place, offset, line_end, IsPlaceOf}
 use Rattle.first_pass_grammar.proofs.Common.{line_len-eol, line_len-fits, bytes_line_end, MathBraces, Inline, Spot, spot, IsCell, cell_ends, Document}
@@ -9,10 +9,7 @@ use Rattle.first_pass_tokens.proofs.LineLemmas.{ended_by}
 
 -- after content of a line, the end of the line is the same
 along : (text : List ℕ) (at n : ℕ) → n ≤ prefix_len is_content (drop at text) → at + n + line_len (drop (at + n) text) ≡ at + line_len (drop at text)
-along text at n within =
-    let moved = bytes_line_end n (line_place at (drop at text)) within in
-    let same = ap (λ (bs : List ℕ). line_len bs) (drop-drop n at text) in
-    omega arith
+along text at n within = grind (arith, bytes_line_end n (line_place at (drop at text)) within, drop-drop)
 
 -- white space is content
 white_step : (b : ℕ) (bs : List ℕ) → prefix_len is_white bs ≤ prefix_len is_content bs → prefix_len is_white (b ∷ bs) ≤ prefix_len is_content (b ∷ bs)
@@ -32,9 +29,7 @@ pipe_content b bs h = grind (arith, nat_tests)
 start_along : (text : List ℕ) (at : ℕ) (t : Bool) → (slice_index text at == pipe) ≡ t
     → cell_start text at + line_len (drop (cell_start text at) text) ≡ at + line_len (drop at text)
 start_along text at true here =
-    let read = at_drop_more (prefix_len is_content) text at 0 (pipe_inside text at here) in
-    let some = pipe_content (slice_index text at) (drop (at + 1) text) (eqb-true (slice_index text at) pipe here) in
-    rw here (along text at 1 (omega arith))
+    let read = at_drop_more (prefix_len is_content) text at 0 (pipe_inside text at here) in grind (arith, pipe_content, along)
 start_along text at false here = rw here
 
 -- the content of a cell begins in the line in which it is looked for
@@ -46,11 +41,7 @@ pub text_after : (text : List ℕ) (at : ℕ) (t : Bool) → (slice_index text a
 text_after text at t here = grind arith
 
 pub text_within : (text : List ℕ) (at : ℕ) → at ≤ length text → (at ≤ cell_text text at) × (cell_text text at ≤ length text)
-text_within text at within =
-    let same = text_along text at in
-    let fits = line_len-fits (drop at text) in
-    let rest = length-drop at text in
-    (text_after text at (slice_index text at == pipe) refl, omega arith)
+text_within text at within = grind (arith, text_along, line_len-fits, length-drop, text_after)
 
 -- The row whose cells begin at a place ends after the line ending there: its line has the same end.
 pub row_ends_its_line : (d : Document) (p : Spot) (cells : List (List (ℕ × Item))) (to : Spot) → p.at ≤ length d.text → AreCells d p cells to
@@ -60,14 +51,12 @@ row_ends_its_line d p [] to within (n, h, is) = grind (arith, text_along, line_l
 row_ends_its_line d p (cell ∷ cells) to within (on, tokens, next, is, same, more) =
     let start = text_within d.text p.at within in
     let ends = cell_ends start.1 is in
-    let from : cell_text d.text p.at ≤ next.at = ends.from in
-    let reach : next.at ≤ cell_text d.text p.at + prefix_len is_content (drop (cell_text d.text p.at) d.text) = ends.in_line in
-    let first = text_along d.text p.at in
-    let following = along d.text (cell_text d.text p.at) (next.at - cell_text d.text p.at) (omega arith) in
-    let place : cell_text d.text p.at + (next.at - cell_text d.text p.at) ≡ next.at = omega arith in
-    let read = ap (λ (k : ℕ). k + line_len (drop k d.text)) place in
-    let rest = row_ends_its_line d next cells to ends.within more in
-    omega arith
+    grind (
+      arith,
+      text_along d.text p.at,
+      along d.text (cell_text d.text p.at) (next.at - cell_text d.text p.at) (omega arith),
+      row_ends_its_line d next cells to ends.within more,
+    )
 
 -- the same of a row that begins at a place of the text
 pub row_ends_at_place : (d : Document) (p : Place) (before : MathBraces) (cells : List (List (ℕ × Item))) (to : Spot) → IsPlaceOf d.text p

@@ -1,5 +1,5 @@
 -- The completions of open nodes, as one type over the further parts of the open containers.
-use Rattle.std.proofs.Common.{◌≡◌, ℕ, suc, Bool, false, List, [], ◌∷◌, length, refl, sym, subst, arith}
+use Rattle.std.proofs.Common.{◌≡◌, ℕ, suc, Bool, false, List, ◌∷◌, length, refl, sym, subst, arith, []}
 use Rattle.first_pass_grammar.proofs.Common.{Item, Place, Document, Skeleton, Before, after_container, before_end, Continues, level, Remaining, Lines}
 use Rattle.first_pass_grammar.proofs.Common.{onward, end_before, IsSequence, ItemsOf, Rows, any_gap, rows_of, Tables, Derives, with_all_of, ended, Pending}
 use Rattle.first_pass_grammar.proofs.Common.{NoList, OneList, Unfinished, Further, AreFurther, rows_beyond, rendered, Frame, InContainer, Closed}
@@ -27,10 +27,7 @@ Finish d defined list before (InContainer c ∷ frames) nodes (place ∷ places)
     places (onward mid).0 (onward mid).1 forest tables)
 
 pub containers-loosened : (gap : Bool) (frames : List Frame) → containers_of (loosened gap frames) ≡ containers_of frames
-containers-loosened gap [] = refl
-containers-loosened gap (InContainer c ∷ frames) = refl
-containers-loosened gap (InList byte loose ∷ frames) = refl
-containers-loosened gap (InDefinitions loose ∷ frames) = refl
+containers-loosened gap frames = grind arith
 
 -- the state with these parts
 abbrev pub unfinished : Tables → List (ℕ × Item) → Pending → Before → Unfinished
@@ -114,8 +111,7 @@ pub finish_derives : (d : Document) (defined : Tables) (t : Tail) (frames : List
     → CompletesAt d defined t frames nodes os from lines
     → (forest : List (ℕ × Item)) (tables : Tables) → FinishesAt d defined t frames nodes os from lines forest tables → Derives d forest tables
 finish_derives d defined t frames nodes os from lines c forest tables fin =
-    let w : Unfinished = unfinished defined nodes (NoList t.closed) (before_of frames t) in
-    let r = of_finish d frames os w from lines forest tables fin in c.whole r.0 forest tables r.1 r.2
+    grind (arith, of_finish d frames os (unfinished defined nodes (NoList t.closed) (before_of frames t)) from lines forest tables fin)
 
 -- open nodes at their places are completed if the text derives all that finishes them
 pub completes_by : (d : Document) (frames : List Frame) (os : List ℕ) (w : Unfinished) (from : Continues) (lines : List Place)

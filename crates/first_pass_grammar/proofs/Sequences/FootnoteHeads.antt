@@ -1,10 +1,9 @@
 -- A footnote definition does not change the labels of others: the head of one is the same inside a footnote definition
 -- as around it.
-use Rattle.std.proofs.Common.{arith, ◌≡◌, ℕ, ◌&&◌, ◌||◌, not, Bool, true, false, List, [], ◌∷◌, drop, Option, Some, None, refl, ap, sym, ◌∙◌}
-use Rattle.std.proofs.Common.{if◌then◌else◌, option_and_then, is_some}
-use Rattle.first_pass_grammar.proofs.Common.{and-false, Options, gfm_footnotes, at_line_end, line_len, Rest, indent, Place, line_rest}
-use Rattle.first_pass_grammar.proofs.Common.{context, footnote_columns, prefix, after, or_shorter, front, all_taken, Continued}
-use Rattle.first_pass_grammar.proofs.Common.{continued, interrupts, table_at, crossed, footnote_prefix, footnote_head_at}
+use Rattle.std.proofs.Common.{arith, ◌≡◌, ℕ, ◌&&◌, not, Bool, true, false, List, ◌∷◌, drop, Option, refl, ap, ◌∙◌, if◌then◌else◌, option_and_then, is_some, []}
+use Rattle.first_pass_grammar.proofs.Common.{and-false, Options, gfm_footnotes, line_len, Rest, Place, line_rest, context, footnote_columns, prefix, after}
+use Rattle.first_pass_grammar.proofs.Common.{or_shorter, front, all_taken, Continued, continued, interrupts, table_at, crossed, footnote_prefix}
+use Rattle.first_pass_grammar.proofs.Common.{footnote_head_at}
 use Rattle.std.proofs.Math.Dec.{leb-zero}
 use Rattle.first_pass_grammar.specs.declared.kind.Container.{Container}
 use Rattle.first_pass_grammar.specs.declared.kind.Container.TheVariants.{FootnoteDefinition}
@@ -18,8 +17,7 @@ with_old path = FootnoteDefinition 0 ∷ path
 -- such a definition has no prefix in a line
 pub after_by : (o : Option Rest) → option_and_then (prefix (FootnoteDefinition 0)) o ≡ o
 unfolding prefix
-after_by None = refl
-after_by (Some r) = ap (λ (t : Bool). if t || at_line_end r.left then Some r else None) (leb-zero (indent r))
+after_by o = grind (arith, leb-zero)
 
 after_same : (path : List Container) (r : Rest) → after (with_old path) r ≡ after path r
 unfolding after
@@ -49,8 +47,7 @@ stopped_none c o e h = grind arith
 whole_by : (c : Container) (path : List Container) (r : Rest) (t : Bool) → is_some (after path r) ≡ t
     → is_some (option_and_then (prefix c) (after path r)) ≡ true
     → (if t then is_definition c && not (is_some (option_and_then (prefix c) (after path r))) else at_definition path r) ≡ false
-whole_by c path r true e h = ap (λ b. is_definition c && not b) h ∙ and-false (is_definition c)
-whole_by c path r false e h = absurd (stopped_none c (after path r) e h)
+whole_by c path r t e h = grind (arith, and-false, stopped_none)
 
 -- no container stops a line that continues all containers
 pub whole_none : (path : List Container) (r : Rest) → is_some (after path r) ≡ true → at_definition path r ≡ false
@@ -59,8 +56,7 @@ whole_none [] r h = refl
 whole_none (c ∷ path) r h = whole_by c path r (is_some (after path r)) refl h
 
 stop_by : (path : List Container) (r : Rest) (t : Bool) → is_some (after path r) ≡ t → (if t then false else at_definition path r) ≡ at_definition path r
-stop_by path r true e = sym (whole_none path r e)
-stop_by path r false e = refl
+stop_by path r t e = grind (arith, whole_none)
 
 stop_same : (path : List Container) (r : Rest) → at_definition (with_old path) r ≡ at_definition path r
 unfolding at_definition
@@ -87,8 +83,7 @@ crossed_same options path in_label r = rw (paragraph_same options path r, front_
 prefix_by : (options : Options) (columns : ℕ) (path : List Container) (bs : List ℕ) (t : Bool) → gfm_footnotes options ≡ t
     → columns ≡ (if t then 4 else 0)
     → footnote_prefix (context options (FootnoteDefinition columns ∷ path)) bs ≡ footnote_prefix (context options path) bs
-prefix_by options columns path bs true gfm is = rw gfm refl
-prefix_by options columns path bs false gfm is = grind (arith, crossed_same)
+prefix_by options columns path bs t gfm is = grind (arith, crossed_same)
 
 prefix_same : (options : Options) (columns : ℕ) (path : List Container) (bs : List ℕ) → columns ≡ footnote_columns options
     → footnote_prefix (context options (FootnoteDefinition columns ∷ path)) bs ≡ footnote_prefix (context options path) bs

@@ -1,10 +1,9 @@
 -- Where a sequence of blocks continues, and where it ends.
-use Rattle.std.proofs.Common.{◌≡◌, ◌⊎◌, inl, inr, ℕ, ◌&&◌, Bool, true, false, List, [], ◌∷◌, Option, Some, None, refl, sym, ap, subst, if◌then◌else◌}
-use Rattle.std.proofs.Common.{option_map, is_some, true≢false, arith}
+use Rattle.std.proofs.Common.{◌≡◌, ◌⊎◌, ℕ, ◌&&◌, Bool, true, false, List, ◌∷◌, Option, Some, None, refl, subst, if◌then◌else◌, option_map, is_some, true≢false}
+use Rattle.std.proofs.Common.{arith, []}
 use Rattle.first_pass_grammar.proofs.Common.{cond_both, and_parts, none-some, Options, Rest, Place, Before, context, at_rest, after, taken, next_goes_on}
-use Rattle.first_pass_grammar.proofs.Common.{in_footnote, footnote_head_at, ends_footnote, is_blank_rest, Continues, Line, Blanks, AtPlace, Anything, Inside}
-use Rattle.first_pass_grammar.proofs.Common.{is_blank_after, next_is_blank, Level, level, Remaining, Lines, InLine, NextBlock, Begins, Ends}
-use Rattle.first_pass_grammar.proofs.Common.{ends_old_footnote, only_blanks, next_block}
+use Rattle.first_pass_grammar.proofs.Common.{in_footnote, ends_footnote, is_blank_rest, Continues, Line, Blanks, AtPlace, Inside, is_blank_after, next_is_blank}
+use Rattle.first_pass_grammar.proofs.Common.{Level, level, Remaining, Lines, InLine, NextBlock, Begins, Ends, ends_old_footnote, only_blanks, next_block}
 use Rattle.first_pass_grammar.specs.declared.kind.Container.{Container}
 use Rattle.first_pass_grammar.specs.Skeleton.{next_block_in, next_block_blank}
 
@@ -33,22 +32,15 @@ in_line path from lines p following u at = grind (arith, cond_both, and_parts)
 
 at_line : (options : Options) (l : Level) (line : Place) (lines : List Place) (o : Option Place) → taken l.path line ≡ o
     → GoesAt l.path Line (line ∷ lines) (next_block_in options l o (line ∷ lines))
-at_line options l line lines None is = refl
-at_line options l line lines (Some q) is = grind (arith, cond_both, in_line)
+at_line options l line lines o is = grind (arith, cond_both, in_line)
 
 at_blank : (path : List Container) (e : ℕ) (line : Place) (lines : List Place) (o : Option Place) → taken path line ≡ o
     → GoesAt path (Blanks e) (line ∷ lines) (next_block_blank o (line ∷ lines))
-at_blank path e line lines None is = refl
-at_blank path e line lines (Some q) is = grind (arith, cond_both)
+at_blank path e line lines o is = grind (arith, cond_both)
 
 goes_at : (options : Options) (l : Level) (from : Continues) (lines : List Place) → GoesAt l.path from lines (next_block options l from lines)
 unfolding next_block
-goes_at options l (AtPlace p Anything) lines = in_line l.path (Inside p) lines p lines (is_some (footnote_head_at (context options l.path) p)) (refl, refl)
-goes_at options l (AtPlace p may) lines = (refl, refl)
-goes_at options l Line [] = refl
-goes_at options l Line (line ∷ lines) = at_line options l line lines (taken l.path line) refl
-goes_at options l (Blanks e) [] = refl
-goes_at options l (Blanks e) (line ∷ lines) = at_blank l.path e line lines (taken l.path line) refl
+goes_at options l from lines = grind (arith, in_line, at_line, at_blank)
 
 -- the place of the next block of a sequence
 pub begins_at : (options : Options) (l : Level) (from : Continues) (lines : List Place) (p : Place) (following : List Place)
@@ -70,11 +62,7 @@ same_left a b e = cc
 pub all_taken_at : (options : Options) (before : Before) (from : Continues) (lines : List Place) (left : Remaining)
     → next_block options (level [] before) from lines ≡ Ends left → only_blanks from ≡ None → left ≡ Lines []
 unfolding next_block after
-all_taken_at options before (AtPlace p Anything) lines left is none = absurd (begun_not_ended p lines left is)
-all_taken_at options before (AtPlace p may) lines left is none = absurd (begun_not_ended p lines left is)
-all_taken_at options before Line [] left is none = sym (same_left (Lines []) left is)
-all_taken_at options before Line (line ∷ lines) left is none = absurd (begun_not_ended (at_rest line line.rest) lines left is)
-all_taken_at options before (Blanks e) lines left is none = absurd (none-some e (sym none))
+all_taken_at options before from lines left is none = grind (arith, begun_not_ended, same_left, none-some)
 
 -- a block begins inside a line if no footnote definition ends there; otherwise the sequence ends
 pub begins_inside : (options : Options) (l : Level) (p : Place) (lines : List Place)
@@ -98,31 +86,25 @@ enters options l line q lines is old = rw (is, old) refl
 -- the old form ends after a counting blank line
 ends_by : (options : Options) (l : Level) (line : Place) (lines : List Place) (o : Option Rest) → (is_some o ≡ false) ⊎ (ends_old_footnote l ≡ true)
     → next_block_in options l (option_map (at_rest line) o) (line ∷ lines) ≡ Ends (Lines (line ∷ lines))
-ends_by options l line lines None h = refl
-ends_by options l line lines (Some r) (inl h) = absurd (true≢false h)
-ends_by options l line lines (Some r) (inr old) = rw old refl
+ends_by options l line lines o h = grind (arith, true≢false)
 
 pub ends_old : (options : Options) (l : Level) (lines : List Place) → ends_old_footnote l ≡ true → next_block options l Line lines ≡ Ends (Lines lines)
 unfolding next_block
-ends_old options l [] old = refl
-ends_old options l (line ∷ lines) old = ends_by options l line lines (after l.path line.rest) (inr old)
+ends_old options l lines old = grind (arith, ends_by)
 
 pub stops : (options : Options) (l : Level) (lines : List Place) → next_goes_on l.path lines ≡ false → next_block options l Line lines ≡ Ends (Lines lines)
 unfolding next_block
-stops options l [] h = refl
-stops options l (line ∷ lines) h = ends_by options l line lines (after l.path line.rest) (inl h)
+stops options l lines h = grind (arith, ends_by)
 
 -- an item that takes only blank lines
 stops_blank_by : (line : Place) (lines : List Place) (o : Option Rest) → is_blank_after o ≡ false
     → next_block_blank (option_map (at_rest line) o) (line ∷ lines) ≡ Ends (Lines (line ∷ lines))
-stops_blank_by line lines None h = refl
-stops_blank_by line lines (Some r) h = ap (λ (t : Bool). if◌then◌else◌ {A = NextBlock} t (Begins (at_rest line r) lines) (Ends (Lines (line ∷ lines)))) h
+stops_blank_by line lines o h = grind arith
 
 pub stops_blank : (options : Options) (l : Level) (e : ℕ) (lines : List Place) → next_is_blank l.path lines ≡ false
     → next_block options l (Blanks e) lines ≡ Ends (Lines lines)
 unfolding next_block
-stops_blank options l e [] h = refl
-stops_blank options l e (line ∷ lines) h = stops_blank_by line lines (after l.path line.rest) h
+stops_blank options l e lines h = grind (arith, stops_blank_by)
 
 pub begins_blank : (options : Options) (l : Level) (e : ℕ) (line q : Place) (lines : List Place) → taken l.path line ≡ Some q → is_blank_rest q.rest ≡ true
     → next_block options l (Blanks e) (line ∷ lines) ≡ Begins q lines

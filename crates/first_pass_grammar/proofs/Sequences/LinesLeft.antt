@@ -1,11 +1,11 @@
 -- The lines of a text are places of it, and so are the lines that paragraphs, runs of definitions, tables and other
 -- blocks leave.
-use Rattle.std.proofs.Common.{◌≡◌, inl, inr, ℕ, ◌+◌, nat_lt, Bool, true, false, List, [], ◌∷◌, drop, drop-drop, Option, Some, None, MatchOption, refl, sym}
-use Rattle.std.proofs.Common.{ap, ◌∙◌, subst, arith}
-use Rattle.first_pass_grammar.proofs.Common.{cond_both, Item, Alignment, Place, line_place, lines_at, offset, ends_line, is_white, Context, at_rest, front}
-use Rattle.first_pass_grammar.proofs.Common.{unindented, is_blank_rest, Document, around, add_break, TextLines, AreTextLines, Spot, spot}
-use Rattle.first_pass_grammar.proofs.Common.{add_tokens, LinkEntry, lines_beyond, Beyond, Ended, FlowsOn, IsRun, headed_table, Taken, TableSoFar, IsTable}
-use Rattle.first_pass_grammar.proofs.Common.{lines_from, IsPlainText, IsText, IsUnderlined, plain_text, HeadingLevel, past_head, prefix_len}
+use Rattle.std.proofs.Common.{◌≡◌, inl, inr, ℕ, ◌+◌, nat_lt, Bool, List, ◌∷◌, drop, drop-drop, Option, Some, None, MatchOption, refl, sym, ap, ◌∙◌, subst}
+use Rattle.std.proofs.Common.{arith, []}
+use Rattle.first_pass_grammar.proofs.Common.{cond_both, Item, Alignment, Place, line_place, lines_at, offset, Context, at_rest, front, unindented, Document}
+use Rattle.first_pass_grammar.proofs.Common.{around, add_break, TextLines, AreTextLines, Spot, spot, add_tokens, LinkEntry, lines_beyond, Beyond, Ended}
+use Rattle.first_pass_grammar.proofs.Common.{FlowsOn, IsRun, headed_table, Taken, TableSoFar, IsTable, lines_from, IsPlainText, IsText, IsUnderlined}
+use Rattle.first_pass_grammar.proofs.Common.{plain_text, HeadingLevel, past_head}
 use Rattle.first_pass_lines.specs.Places.{lines_after}
 use Rattle.first_pass_grammar.specs.declared.kind.Container.{Container}
 use Rattle.first_pass_grammar.proofs.Count.RowsWithRoom.{with_row, RowsWithRoom, counted}
@@ -20,8 +20,7 @@ unfolding lines_after
 past_at text b start [] h = tt
 past_at text b start (c ∷ cs) h =
     let next : drop (start + 1) text ≡ cs = sym (drop-drop 1 start text) ∙ ap (drop 1) h in
-    let further = past_at text c (start + 1) cs next in
-    cond_both (ends_line b (c ∷ cs)) _ _ (AreAt text) (λ e. (place_is_at text start (c ∷ cs) h, further)) (λ e. further)
+    grind (arith, cond_both, place_is_at, past_at text c (start + 1) cs next)
 
 lines_by : (text : List ℕ) (start : ℕ) (bs : List ℕ) → drop start text ≡ bs → AreAt text (lines_at start bs)
 unfolding lines_at
@@ -49,10 +48,7 @@ module _ (At : Place → Type 0) (kept : IsKeptLater At) (L : List Place → Typ
   IsThere there = At there.0 × L there.1
 
   pub head_left : (gfm : Bool) (q : Place) (lines : List Place) → At q → L lines → IsThere (past_head gfm q lines)
-  head_left true q lines i h = (kept.past (prefix_len is_white q.rest.left) q i, h)
-  head_left false q [] i h = (i, h)
-  head_left false q (line ∷ lines) i h =
-      cond_both (is_blank_rest q.rest) (line, lines) (q, line ∷ lines) IsThere (λ b. (first line lines h, further line lines h)) (λ b. (i, h))
+  head_left gfm q lines i h = grind (arith, cond_both)
 
   -- what follows a run of definitions
   abbrev pub IsBeyond : Beyond → Type 0
@@ -94,14 +90,12 @@ module _ (L : List Place → Type 0) (further : IsKeptBelow L) where
       subst LeavesHeld (sym e) (rows_left d path (with_row table row) lines more (further line lines h) rest)
 
   first_left : (lines : List Place) → L lines → L (drop 1 lines)
-  first_left [] h = h
-  first_left (line ∷ lines) h = further line lines h
+  first_left lines h = grind arith
 
   -- the lines after a paragraph, a setext heading or a table
   ended_left : (d : Document) (path : List Container) (start : ℕ) (marker : Option Item) (l : TextLines) (t : Taken) (o : Option (ℕ × HeadingLevel))
       → L l.left → MatchOption o (t ≡ plain_text d start marker l) (λ underline. IsUnderlined d start marker l underline.1 t) → LeavesHeld t
-  ended_left d path start marker l t None h e = subst LeavesHeld (sym e) h
-  ended_left d path start marker l t (Some underline) h (index, named, e) = subst LeavesHeld (sym e) (first_left l.left h)
+  ended_left d path start marker l t o h e = grind (arith, first_left)
 
   text_left_by : (d : Document) (path : List Container) (p : Place) (marker : Option Item) (lines : List Place) (t : Taken) (o : Option (List Alignment))
       → L lines → MatchOption o (IsPlainText d path (offset p) marker lines t) (λ alignments. IsTable d path p alignments lines t) → LeavesHeld t

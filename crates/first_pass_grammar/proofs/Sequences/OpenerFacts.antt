@@ -1,5 +1,5 @@
 -- A container begins with the marker of an item, of a definition or of a block quote.
-use Rattle.std.proofs.Common.{◌≡◌, ℕ, Bool, Option, Some, None, refl, subst, if◌then◌else◌, option_map, arith}
+use Rattle.std.proofs.Common.{◌≡◌, ℕ, Bool, Option, Some, None, refl, if◌then◌else◌, option_map, arith}
 use Rattle.first_pass_grammar.proofs.Common.{same_Some, Options, Rest, Place, prefix, definition_marker_at, Start, item_start, task_after, quote_begun}
 use Rattle.first_pass_grammar.proofs.Common.{tag_after, definition_start, start_at}
 use Rattle.std.specs.Option.{option_or}
@@ -25,10 +25,7 @@ start_by : (options : Options) (p : Place) (P : Start → Type 0) (i : Option ((
     → ((item : (ℕ × ℕ × ℕ) × Rest) → i ≡ Some item → P (item_as options p item))
     → ((marker : ℕ × Rest) → i ≡ None → m ≡ Some marker → P (definition_start p marker))
     → ((r : Rest) → i ≡ None → q ≡ Some r → P (quote_as options p r)) → (s : Start) → start_of_three options p i m q ≡ Some s → P s
-start_by options p P (Some item) m q f d g s h = subst P (same_Some (item_as options p item) s h) (f item refl)
-start_by options p P None (Some marker) q f d g s h = subst P (same_Some (definition_start p marker) s h) (d marker refl refl)
-start_by options p P None None (Some r) f d g s h = subst P (same_Some (quote_as options p r) s h) (g r refl refl)
-start_by options p P None None None f d g s h = cc
+start_by options p P i m q f d g s h = grind (arith, same_Some)
 
 -- a property of the marker of an item, a definition or a block quote holds for the start of every container
 pub start_cases : (options : Options) (may : Bool) (p : Place) (P : Start → Type 0)

@@ -1,12 +1,11 @@
 -- The rest at a place is the text from its offset on. This holds for the lines of a text; after columns, markers and
 -- container prefixes; and for the places and lines after a leaf block.
-use Rattle.std.proofs.Common.{◌≡◌, ℕ, ◌+◌, nat_lt, Bool, List, [], ◌∷◌, drop, Option, Some, None, refl, sym, ap, subst, length, ◌∙◌, arith, drop-drop}
-use Rattle.std.proofs.Common.{if◌then◌else◌, option_map, length-drop, ◌<◌}
+use Rattle.std.proofs.Common.{◌≡◌, ℕ, ◌+◌, nat_lt, Bool, List, ◌∷◌, drop, Option, Some, None, refl, sym, ap, subst, length, ◌∙◌, arith, drop-drop}
+use Rattle.std.proofs.Common.{if◌then◌else◌, option_map, length-drop, ◌<◌, []}
 use Rattle.first_pass_grammar.proofs.Common.{none-some, same_Some, drop-append_seam, Options, has, Rest, indent, past_bytes, after_columns, Place, place_at}
 use Rattle.first_pass_grammar.proofs.Common.{offset, task_of, IsMarked, item-marked, definition-marked, at_rest, prefix, after, front, taken, all_taken}
-use Rattle.first_pass_grammar.proofs.Common.{unindented, definition_marker_at, code_place, code_by, code_lines, Extent, Verdict, GoesOn, IsLast, Closes}
-use Rattle.first_pass_grammar.proofs.Common.{Stops, extent_by, extent, place_past, task_by, task_after, columns_shorter, is_content, prefix_len-le-length}
-use Rattle.first_pass_grammar.proofs.Common.{past_quote, some_mapped}
+use Rattle.first_pass_grammar.proofs.Common.{unindented, definition_marker_at, code_by, code_lines, Extent, Verdict, extent_by, extent, place_past, task_by}
+use Rattle.first_pass_grammar.proofs.Common.{task_after, columns_shorter, prefix_len-le-length, past_quote, some_mapped}
 use Rattle.first_pass_items.specs.OptionWords.{tasklists}
 use Rattle.first_pass_lines.proofs.PlaceFacts.{quote_shorter}
 use Rattle.first_pass_scan.proofs.MarkerPlaces.{task-marked}
@@ -39,9 +38,7 @@ follows_both : (r s q : Rest) → Follows r s → Follows s q → Follows r q
 follows_both r s q (n, e, f) (m, g, h) = (n + m, g ∙ ap (drop m) e ∙ drop-drop m n r.left, omega arith)
 
 at_after : (text : List ℕ) (line : ℕ) (r s : Rest) → Follows r s → IsAt text (place_at line r) → IsAt text (place_at line s)
-at_after text line r s (n, e, f) i =
-    let same : line + r.taken + n ≡ line + s.taken = omega arith in
-    e ∙ ap (drop n) i ∙ drop-drop n (line + r.taken) text ∙ ap (λ (k : ℕ). drop k text) same
+at_after text line r s h4 i = grind (arith, drop-drop)
 
 -- bytes of a prefix or of columns
 skips_follow : {r s : Rest} → Skips r s → Follows r s
@@ -71,12 +68,7 @@ marked_definition r definition h = definition-marked (indent r) (all_taken r) de
 
 -- After a marker, fewer bytes of the line are left.
 pub marked_shorter : (r s : Rest) → IsMarked r s → length s.left < length r.left
-marked_shorter r s m =
-    let one : Rest = past_bytes m.width r in
-    let first = columns_shorter m.first one in
-    let further = columns_shorter m.further (after_columns m.first one) in
-    let same = ap (λ (q : Rest). length q.left) m.same in
-    omega (arith, m.some, m.within, prefix_len-le-length is_content r.left, length-drop m.width r.left)
+marked_shorter r s m = grind (arith, columns_shorter, prefix_len-le-length, length-drop)
 
 pub marked_less : (n : ℕ) (r s : Rest) → IsMarked (after_columns n r) s → length s.left < length r.left
 marked_less n r s m = omega (arith, marked_shorter (after_columns n r) s m, columns_shorter n r)
@@ -89,9 +81,7 @@ definition_shorter r definition h = marked_less (indent r) r definition.1 (marke
 
 -- A block quote marker takes a byte.
 pub quote_less : (r s : Rest) (o : Option Rest) → past_quote r ≡ o → option_map (after_columns 1) o ≡ Some s → length s.left < length r.left
-quote_less r s o q e =
-    let m = some_mapped (after_columns 1) o s e in
-    omega (arith, ap (λ (z : Rest). length z.left) m.2, columns_shorter 1 m.0, quote_shorter r m.0 (q ∙ m.1))
+quote_less r s o q e = grind (arith, some_mapped, columns_shorter, quote_shorter)
 
 -- The prefix of a block quote takes a byte.
 pub quote_prefix_shorter : (r s : Rest) → prefix (BlockQuote None) r ≡ Some s → length s.left < length r.left
@@ -118,12 +108,7 @@ pub record IsKeptLater (At : Place → Type 0) : Type 0 where
   pub past : (n : ℕ) (p : Place) → At p → At (place_past n p)
 
 pub at_kept : (text : List ℕ) → IsKeptLater (IsAt text)
-at_kept text = record {
-  later = at_after text;
-  past = λ n p i.
-      let same : offset p + n ≡ offset p + n + 0 = omega arith in
-      ap (drop n) i ∙ drop-drop n (offset p) text ∙ ap (λ (k : ℕ). drop k text) same;
-}
+at_kept text = grind (arith, at_after, drop-drop)
 
 -- no property
 abbrev pub Anywhere : Place → Type 0
@@ -147,8 +132,7 @@ module _ (At : Place → Type 0) (kept : IsKeptLater At) where
       (kept.later line.line line.rest (front path line.rest) (skips_follow (front_skips path line.rest)) i)
 
   taken_by : (line q : Place) (o : Option Rest) → ((s : Rest) → o ≡ Some s → Follows line.rest s) → option_map (at_rest line) o ≡ Some q → At line → At q
-  taken_by line q None f h i = absurd (none-some q h)
-  taken_by line q (Some s) f h i = subst At (same_Some (at_rest line s) q h) (kept.later line.line line.rest s (f s refl) i)
+  taken_by line q o f h i = grind (arith, none-some, same_Some)
 
   pub at_taken : (path : List Container) (line q : Place) → taken path line ≡ Some q → At line → At q
   at_taken path line q h i = taken_by line q (after path line.rest) (λ s e. skips_follow (after_skips path line.rest s e)) h i
@@ -174,10 +158,7 @@ IsKeptBelow L = (line : Place) (lines : List Place) → L (line ∷ lines) → L
 -- the lines after a block have such a property
 module _ (L : List Place → Type 0) (further : IsKeptBelow L) where
   pub verdict_left : (v : Verdict) (line : Place) (lines : List Place) (e : Extent) → L (line ∷ lines) → L e.left → L (extent_by v line lines e).left
-  verdict_left (GoesOn p) line lines e h k = k
-  verdict_left (IsLast p) line lines e h k = further line lines h
-  verdict_left (Closes at) line lines e h k = further line lines h
-  verdict_left (Stops at) line lines e h k = h
+  verdict_left v line lines e h k = grind arith
 
   pub extent_left : (judge : Place → Verdict) (n : ℕ) (lines : List Place) → L lines → L (extent judge n lines).left
   unfolding extent
@@ -185,11 +166,9 @@ module _ (L : List Place → Type 0) (further : IsKeptBelow L) where
   extent_left judge n (line ∷ lines) h = verdict_left (judge line) line lines (extent judge n lines) h (extent_left judge n lines (further line lines h))
 
   code_left_by : (o : Option Place) (more lines : List Place) (left : List Place × List Place) → L lines → L left.1 → L (code_by more lines o left).1
-  code_left_by None more lines left h k = h
-  code_left_by (Some p) more lines left h k = k
+  code_left_by o more lines left h k = grind arith
 
   pub code_left : (path : List Container) (lines : List Place) → L lines → L (code_lines path lines).1
   unfolding code_lines
   code_left path [] h = h
-  code_left path (line ∷ lines) h =
-      code_left_by (code_place path line) lines (line ∷ lines) (code_lines path lines) h (code_left path lines (further line lines h))
+  code_left path (line ∷ lines) h = grind (arith, code_left_by, code_left path lines (further line lines h))

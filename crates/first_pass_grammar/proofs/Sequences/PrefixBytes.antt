@@ -1,6 +1,6 @@
 -- The prefixes of containers and the indentation of a line have only the bytes `>`, space and tab.
-use Rattle.std.proofs.Common.{◌≡◌, ℕ, zero, suc, ◌+◌, ◌-◌, ◌%◌, ◌==◌, ◌||◌, Bool, true, false, List, [], ◌∷◌, ◌++◌, length, Option, Some, None, refl, sym}
-use Rattle.std.proofs.Common.{ap, subst, ◌∙◌, append_assoc, arith, length-append, if◌then◌else◌, option_map}
+use Rattle.std.proofs.Common.{◌≡◌, ℕ, zero, suc, ◌+◌, ◌-◌, ◌%◌, ◌==◌, ◌||◌, Bool, true, false, List, ◌∷◌, ◌++◌, length, Option, Some, None, refl, sym, ap}
+use Rattle.std.proofs.Common.{subst, ◌∙◌, append_assoc, arith, length-append, if◌then◌else◌, option_map, []}
 use Rattle.first_pass_grammar.proofs.Common.{or_right, none-some, same_Some, cond_some, space, greater_than, Rest, past_quote_byte, past_quote}
 use Rattle.first_pass_grammar.proofs.Common.{column_of_byte, column_of, next_column, after_columns, after-more, after-none, has_columns, prefix, after}
 use Rattle.first_pass_grammar.proofs.Common.{or_shorter, front}
@@ -13,8 +13,7 @@ use Rattle.first_pass_grammar.specs.declared.kind.Container.{Container}
 use Rattle.first_pass_grammar.specs.declared.kind.Container.TheVariants.{BlockQuote, ListItem, FootnoteDefinition, Definition}
 
 pub if_some : {A : Type 0} (t : Bool) (o : Option A) (x : A) → (if t then o else None) ≡ Some x → o ≡ Some x
-if_some true o x h = h
-if_some false o x h = absurd (none-some x h)
+if_some t o x h = grind (arith, none-some)
 
 -- a byte of the prefix of a container or of indentation
 abbrev pub is_prefix_byte : ℕ → Bool
@@ -54,12 +53,10 @@ column_by false true r s b bs e f g h =
 column_by false false r s b bs e f g h = absurd (none-some s h)
 
 column_byte : (r s : Rest) (bs : List ℕ) → r.left ≡ bs → column_of_byte r bs ≡ Some s → Skips r s
-column_byte r s [] e h = absurd (none-some s h)
-column_byte r s (b ∷ bs) e h = column_by (b == space) (b == tab) r s b bs e refl refl h
+column_byte r s bs e h = grind (arith, none-some, column_by)
 
 column_skips : (owed : ℕ) (r s : Rest) → column_of owed r ≡ Some s → Skips r s
-column_skips zero r s h = column_byte r s r.left refl h
-column_skips (suc owed) r s h = grind (arith, same_Some)
+column_skips owed r s h = grind (arith, column_byte, same_Some)
 
 columns_step : (k : ℕ) (r : Rest) (o : Option Rest) → next_column r ≡ o → ((s : Rest) → Skips s (after_columns k s)) → Skips r (after_columns (suc k) r)
 columns_step k r None e f = subst (Skips r) (sym (after-none (suc k) r e)) (skips_none r)
@@ -98,8 +95,7 @@ after_skips (c ∷ path) r s h =
     option_and_then_some (prefix c) (after path r) s h (λ q e g. skips_both r q s (after_skips path r q e) (prefix_skips c q s g))
 
 front_by : (o : Option Rest) (r s : Rest) → ((q : Rest) → o ≡ Some q → Skips r q) → Skips r s → Skips r (or_shorter o s)
-front_by None r s f h = h
-front_by (Some q) r s f h = f q refl
+front_by o r s f h = grind arith
 
 pub front_skips : (path : List Container) (r : Rest) → Skips r (front path r)
 unfolding front

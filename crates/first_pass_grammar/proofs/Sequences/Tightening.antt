@@ -1,12 +1,11 @@
 -- The nodes after a list is closed are those of a tight list in the grammar.
-use Rattle.std.proofs.Common.{◌≡◌, ℕ, zero, suc, ◌+◌, ◌<◌, ◌≤◌, Bool, true, false, not, eqb, List, [], ◌∷◌, ◌++◌, length, map, Option, refl, ap, ◌∙◌, arith}
-use Rattle.std.proofs.Common.{eq-eqb, if◌then◌else◌, Some, None, option_map}
+use Rattle.std.proofs.Common.{◌≡◌, ℕ, zero, suc, ◌+◌, ◌<◌, ◌≤◌, Bool, true, false, not, eqb, List, ◌∷◌, ◌++◌, length, map, Option, refl, ap, arith, eq-eqb}
+use Rattle.std.proofs.Common.{if◌then◌else◌, Some, None, option_map, []}
 use Rattle.first_pass_grammar.proofs.Common.{option_map_or, map-append, nat_tests, Item, modify, map_from, at_depth, tightened, Before, nothing, after_blank}
-use Rattle.first_pass_grammar.proofs.Common.{after_block, LeafBlock, BlankLine, Block, Opener, QuoteMarker, ItemMarker, Skeleton, Nil, Then}
-use Rattle.first_pass_grammar.proofs.Common.{Node, FootnoteMarker, DefinitionMarker, What, ALeaf, Row, Rows, End, OneOf, is_loose, list_after, row_of}
-use Rattle.first_pass_grammar.proofs.Common.{container_row, rows_of, continues_list, ATitle, Joins, ItemsOf, DefinitionsTo, row_of_leaf, Definitions}
-use Rattle.first_pass_grammar.proofs.Common.{apart_after, definitions_of_row, is_untitled, is_run_row, definitions_first, titled, leaf_row, gap_before}
-use Rattle.first_pass_grammar.proofs.Common.{row_items, tight_in, items_of, as_title, flagged, list_closed, length-modify, cond_both}
+use Rattle.first_pass_grammar.proofs.Common.{after_block, LeafBlock, BlankLine, Block, Opener, Skeleton, Nil, Then, Node, What, Row, Rows, End, OneOf, is_loose}
+use Rattle.first_pass_grammar.proofs.Common.{list_after, row_of, container_row, rows_of, ATitle, Joins, row_of_leaf, Definitions, apart_after}
+use Rattle.first_pass_grammar.proofs.Common.{definitions_of_row, is_untitled, is_run_row, definitions_first, titled, leaf_row, gap_before, row_items, tight_in}
+use Rattle.first_pass_grammar.proofs.Common.{items_of, list_closed, length-modify, cond_both}
 use Rattle.first_pass_grammar.specs.Rows.{AnItem, ADefinition}
 use Rattle.first_pass_tree.proofs.Keeps.{map_from-length}
 
@@ -29,10 +28,7 @@ deep_tight d e [] h = refl
 deep_tight d e (n ∷ items) h = let t = eqb-more d (e + n.0) (omega arith) in let r = deep_tight d e items h in rw t (ap (λ z. tightened e (e + n.0, n.1) ∷ z) r)
 
 deep_row : (d e : ℕ) (tight loose : Bool) (start : ℕ) (w : What) → d < e → map (tightened d) (row_items e tight loose start w) ≡ row_items e tight loose start w
-deep_row d e true loose start (ALeaf b) h = deep_tight d e b.items h
-deep_row d e false loose start (ALeaf b) h = deep_at d e b.items h
-deep_row d e tight loose start (ATitle b) h = deep_at d e (as_title b.items) h
-deep_row d e tight loose start w h = ap (λ z. z ∷ []) (deep_node d e _ h)
+deep_row d e tight loose start w h = grind (arith, deep_tight, deep_at, deep_node)
 
 map_parts : (d : ℕ) (x a b x' a' b' : List (ℕ × Item)) → map (tightened d) x ≡ x' → map (tightened d) a ≡ a' → map (tightened d) b ≡ b'
     → map (tightened d) (x ++ (a ++ b)) ≡ x' ++ (a' ++ b')
@@ -56,15 +52,11 @@ AreBlocks End = Unit {0}
 AreBlocks (OneOf row inner next) = NoItem row.what × AreBlocks next
 
 blocks_past : (joins : Joins) (r : Rows) → AreBlocks r → AreBlocks (list_after joins r)
-blocks_past joins End h = tt
-blocks_past joins (OneOf row inner next) h = cond_both (continues_list joins row.what) _ _ AreBlocks (λ b. h.1) (λ b. h)
+blocks_past joins r h = grind (arith, cond_both)
 
 blocks_container : (last : ℕ) (opener : Opener) (line start e : ℕ) (gap : Bool) (inner next : Rows) → AreBlocks next
     → AreBlocks (container_row last opener (row_of (record { opener = opener; line = line; start = start }) e gap) inner next)
-blocks_container last (QuoteMarker kind) line start e gap inner next h = (tt, h)
-blocks_container last (ItemMarker byte number columns) line start e gap inner next h = (tt, blocks_past (ItemsOf byte) next h)
-blocks_container last (FootnoteMarker columns index label) line start e gap inner next h = (tt, h)
-blocks_container last (DefinitionMarker columns) line start e gap inner next h = (tt, blocks_past (DefinitionsTo e) next h)
+blocks_container last opener line start e gap inner next h = grind (arith, blocks_past)
 
 abbrev BlocksBeside : Option Definitions → Type 0
 BlocksBeside None = Unit {0}
@@ -72,10 +64,7 @@ BlocksBeside (Some ds) = AreBlocks ds.beside
 
 blocks_at : (t u : Bool) (row : Row) (inner next : Rows) (o : Option Definitions) → NoItem row.what → AreBlocks next → BlocksBeside o
     → BlocksBeside (if t then definitions_of_row row inner next else (if u then option_map (apart_after row inner) o else None))
-blocks_at true u row inner next o h k l = k
-blocks_at false true row inner next None h k l = tt
-blocks_at false true row inner next (Some ds) h k l = (h, l)
-blocks_at false false row inner next o h k l = tt
+blocks_at t u row inner next o h k l = grind arith
 
 blocks_first : (r : Rows) → AreBlocks r → BlocksBeside (definitions_first r)
 unfolding definitions_first
@@ -84,8 +73,7 @@ blocks_first (OneOf row inner next) h = blocks_at (is_untitled row.what) (is_run
 
 blocks_titled : (block : LeafBlock) (gap : Bool) (o : Option Definitions) (next : Rows) → BlocksBeside o → AreBlocks next
     → AreBlocks (option_map_or (titled block gap) o (OneOf (row_of_leaf block gap) End next))
-blocks_titled block gap None next h k = (tt, k)
-blocks_titled block gap (Some ds) next h k = (tt, h)
+blocks_titled block gap o next h k = grind arith
 
 blocks_leaf : (block : LeafBlock) (gap : Bool) (next : Rows) → AreBlocks next → AreBlocks (leaf_row block gap next)
 blocks_leaf block gap next h = grind (arith, blocks_titled, cond_both, blocks_first)
@@ -100,16 +88,10 @@ are_blocks quoted before last (Node head e kids next) =
 
 -- tightening the items of a row that is no list item, title or definition gives those of a tight list
 tight_row : (d : ℕ) (loose : Bool) (start : ℕ) (w : What) → NoItem w → map (tightened d) (row_items d false loose start w) ≡ row_items d true loose start w
-tight_row d loose start (ALeaf b) h = refl
-tight_row d loose start (ATitle b) h = absurd h
-tight_row d loose start (ADefinition columns x) h = absurd h
-tight_row d loose start w h = rw (eqb-same d)
+tight_row d loose start w h = grind (arith, eqb-same)
 
 block_in : (loose : Bool) (w : What) → NoItem w → tight_in false loose w ≡ tight_in true loose w
-block_in loose (AnItem columns x) h = absurd h
-block_in loose (ATitle b) h = absurd h
-block_in loose (ADefinition columns x) h = absurd h
-block_in loose w h = refl
+block_in loose w h = grind arith
 
 -- the items of blocks in a tight list are those of the same blocks outside of one, with their paragraphs tightened
 tight_items : (d : ℕ) (r : Rows) → AreBlocks r → map (tightened d) (items_of d false r) ≡ items_of d true r
@@ -132,16 +114,11 @@ modify-append (n ∷ nodes) more (suc k) g h = ap (λ z. n ∷ z) (modify-append
 pub list_closed-append : (nodes more : List (ℕ × Item)) (o d : ℕ) (loose : Bool) (e : ℕ) → o < length nodes
     → list_closed (nodes ++ more) o d loose e ≡ list_closed nodes o d loose e ++ (if loose then more else map (tightened d) more)
 unfolding list_closed
-list_closed-append nodes more o d true e h = modify-append nodes more o _ h
-list_closed-append nodes more o d false e h =
-    let l = map_from-length (tightened d) o nodes in
-    ap (λ z. modify z o (λ x. record { start = x.start; «end» = e; body = flagged false x.body })) (tight_front nodes more o d (omega arith))
-    ∙ modify-append (map_from (tightened d) o nodes) (map (tightened d) more) o _ (omega arith)
+list_closed-append nodes more o d loose e h = grind (arith, modify-append, map_from-length, modify, tight_front)
 
 pub length-closed : (nodes : List (ℕ × Item)) (o d : ℕ) (loose : Bool) (e : ℕ) → length (list_closed nodes o d loose e) ≡ length nodes
 unfolding list_closed
-length-closed nodes o d true e = length-modify nodes o _
-length-closed nodes o d false e = length-modify (map_from (tightened d) o nodes) o _ ∙ map_from-length (tightened d) o nodes
+length-closed nodes o d loose e = grind (arith, length-modify, map_from-length)
 
 up_node : (d : ℕ) (x : Item) → tightened (suc (suc d)) (suc d, x) ≡ (suc d, x)
 up_node d x = let t : eqb (suc d) (suc (suc d)) ≡ false = grind (arith, nat_tests) in rw t refl
@@ -151,5 +128,4 @@ pub closed_item : (d last : ℕ) (loose : Bool) (x : Item) (kids : Skeleton)
     → (let inner : Rows = rows_of false nothing last kids in
     let items : List (ℕ × Item) = (suc d, x) ∷ items_of (suc (suc d)) false inner in
     (if loose then items else map (tightened (suc (suc d))) items) ≡ (suc d, x) ∷ items_of (suc (suc d)) (not loose) inner)
-closed_item d last true x kids = refl
-closed_item d last false x kids = grind (arith, up_node, tight_items, are_blocks)
+closed_item d last loose x kids = grind (arith, up_node, tight_items, are_blocks)

@@ -1,13 +1,13 @@
 -- Items that read alike: they differ at most in indices that name the same text, alignments or attributes.
-use Rattle.std.proofs.Common.{◌≡◌, ℕ, zero, suc, ◌+◌, ◌==◌, Bool, true, false, List, [], ◌∷◌, ◌++◌, map, Option, Some, None, refl, sym, ap, ◌∙◌}
-use Rattle.std.proofs.Common.{if◌then◌else◌, option_and_then, option_map, arith}
+use Rattle.std.proofs.Common.{◌≡◌, ℕ, ◌+◌, ◌==◌, Bool, List, ◌∷◌, ◌++◌, map, Option, Some, refl, sym, ap, ◌∙◌, if◌then◌else◌, option_and_then, option_map}
+use Rattle.std.proofs.Common.{arith, []}
 use Rattle.first_pass_grammar.proofs.Common.{map-append, Alignment, AlignmentIndex, CowIndex, HeadingIndex, HeadingLevel, Item, ItemBody, Heading}
-use Rattle.first_pass_grammar.proofs.Common.{SynthesizeText, FencedCodeBlock, Table, Paragraph, FootnoteDefinition, Attributes, at_depth, is_text, is_escaped}
-use Rattle.first_pass_grammar.proofs.Common.{tight_body, tightened, Place, offset, line_end, leaves, touches, add_token, add_tokens, NamesLabel, Names}
-use Rattle.first_pass_grammar.proofs.Common.{NamesText, NamesAlignments, NamesAttributes, TextAt, Named, AText, index_of, only_kind, named, read, read_nodes}
-use Rattle.first_pass_grammar.proofs.Common.{Document, document, block_with, AreColumns, Ranges, raw_items, AreRawLines, spaces, LeafBlock, Leaf, BlankLine}
-use Rattle.first_pass_grammar.proofs.Common.{Block, Opener, FootnoteMarker, label_of, Head, opened, Skeleton, Nil, Then, Node, Continues, Opening, OpensLeaf}
-use Rattle.first_pass_grammar.proofs.Common.{OpensNode, Kind, node_of, is_paragraph_body}
+use Rattle.first_pass_grammar.proofs.Common.{SynthesizeText, FencedCodeBlock, Table, FootnoteDefinition, Attributes, at_depth, is_text, is_escaped, tight_body}
+use Rattle.first_pass_grammar.proofs.Common.{tightened, Place, offset, line_end, leaves, touches, add_token, add_tokens, NamesLabel, Names, NamesText}
+use Rattle.first_pass_grammar.proofs.Common.{NamesAlignments, NamesAttributes, TextAt, Named, AText, index_of, only_kind, named, read, read_nodes, Document}
+use Rattle.first_pass_grammar.proofs.Common.{document, block_with, AreColumns, Ranges, raw_items, AreRawLines, LeafBlock, Leaf, BlankLine, Block, Opener}
+use Rattle.first_pass_grammar.proofs.Common.{FootnoteMarker, label_of, Head, opened, Skeleton, Nil, Then, Node, Continues, Opening, OpensLeaf, OpensNode, Kind}
+use Rattle.first_pass_grammar.proofs.Common.{node_of, is_paragraph_body}
 use Rattle.first_pass_grammar.specs.Names.{AttributesAt, OfHeading}
 use Rattle.first_pass_grammar.proofs.Names.NoIndex.{IsWithoutIndex, HaveNoIndex, only_read}
 use Rattle.first_pass_grammar.proofs.Each.EachOpening.{HoldsFrom}
@@ -59,15 +59,13 @@ abbrev pub AlikeHead : Names → Names → Head → Head → Type 0
 AlikeHead m n head head' = (only_head head ≡ only_head head') × AlikeNodes m n (label_node head.opener) (label_node head'.opener)
 
 only_opened : (o : Opener) → opened (only_opener o) ≡ opened o
-only_opened (FootnoteMarker columns index label) = refl
-only_opened o = refl
+only_opened o = grind arith
 
 pub opened_alike : (head head' : Head) → only_head head ≡ only_head head' → opened head.opener ≡ opened head'.opener
 opened_alike head head' is = sym (only_opened head.opener) ∙ ap (λ (h : Head). opened h.opener) is ∙ only_opened head'.opener
 
 only_label : (o : Opener) → label_of (only_opener o) ≡ label_of o
-only_label (FootnoteMarker columns index label) = refl
-only_label o = refl
+only_label o = grind arith
 
 pub label_alike : (head head' : Head) → only_head head ≡ only_head head' → label_of head.opener ≡ label_of head'.opener
 label_alike head head' is = sym (only_label head.opener) ∙ ap (λ (h : Head). label_of h.opener) is ∙ only_label head'.opener
@@ -88,8 +86,7 @@ Alike m n _ _ = ⊥
 -- a relation of what equal tests choose
 pub chosen : {A : Type 0} (Related : A → A → Type 0) (t t' : Bool) (x x' y y' : A) → t ≡ t' → Related x x' → Related y y'
     → Related (if t then x else y) (if t' then x' else y')
-chosen Related t true x x' y y' is a b = rw is a
-chosen Related t false x x' y y' is a b = rw is b
+chosen Related t t' x x' y y' is a b = grind arith
 
 -- one chain after another
 pub chains_append : (m n : Names) (xs xs' ys ys' : List Item) → AlikeChains m n xs xs' → AlikeChains m n ys ys' → AlikeChains m n (xs ++ ys) (xs' ++ ys')
@@ -111,19 +108,12 @@ join_reads chain (x ∷ xs) = join_reads (join_read chain x) xs
 -- an index changes neither whether a body is a text, an escaped one or a paragraph, nor how it is tightened
 pub kind_tests : (b : ItemBody) → (is_text (only_kind b) ≡ is_text b) × (is_escaped (only_kind b) ≡ is_escaped b)
     × (is_paragraph_body (only_kind b) ≡ is_paragraph_body b) × (only_kind (tight_body b) ≡ tight_body (only_kind b))
-kind_tests Paragraph = (refl, refl, refl, refl)
-kind_tests (SynthesizeText ix) = (refl, refl, refl, refl)
-kind_tests (FencedCodeBlock ix) = (refl, refl, refl, refl)
-kind_tests (FootnoteDefinition ix) = (refl, refl, refl, refl)
-kind_tests (Table ix) = (refl, refl, refl, refl)
-kind_tests (Heading level ix) = (refl, refl, refl, refl)
-kind_tests b = (refl, refl, refl, refl)
+kind_tests b = grind arith
 
 read_joined : (m : Names) (t : Bool) (x y : Item)
     → map (read m) (if t then record x { «end» = y.«end» } ∷ [] else x ∷ y ∷ [])
     ≡ (if t then (record { start = (read m x).0.start; «end» = (read m y).0.«end»; body = (read m x).0.body }, (read m x).1) ∷ [] else read m x ∷ read m y ∷ [])
-read_joined m true x y = refl
-read_joined m false x y = refl
+read_joined m t x y = grind arith
 
 read_token : (m : Names) (chain : List Item) (y : Item) → map (read m) (add_token chain y) ≡ join_read (map (read m) chain) (read m y)
 read_token m [] y = refl
@@ -141,9 +131,7 @@ tokens_alike m n chain chain' tokens tokens' h k = let a = read_tokens m chain t
 -- what the index of attributes names
 named_attributes : (names : Names) (ix : Option HeadingIndex) (attributes : Option Attributes) → NamesAttributes names ix attributes
     → option_and_then (named names) (option_map AttributesAt ix) ≡ option_map OfHeading attributes
-named_attributes names None None h = refl
-named_attributes names (Some ix) (Some attributes) h = rw h refl
-named_attributes names ix attributes h = absurd h
+named_attributes names ix attributes h = grind arith
 
 -- two headings have an index each if they have the same attributes, and none if they have none
 abbrev only_index : Option HeadingIndex → Option HeadingIndex
@@ -151,11 +139,7 @@ only_index ix = option_map (λ (at : HeadingIndex). record { 0 = 0 }) ix
 
 both_given : (m n : Names) (i j : Option HeadingIndex) (attributes : Option Attributes) → NamesAttributes m i attributes → NamesAttributes n j attributes
     → only_index i ≡ only_index j
-both_given m n None (Some j) None h k = absurd k
-both_given m n None (Some j) (Some attributes) h k = absurd h
-both_given m n (Some i) None None h k = absurd h
-both_given m n (Some i) None (Some attributes) h k = absurd k
-both_given m n i j attributes h k = refl
+both_given m n i j attributes h k = grind arith
 
 -- Items that differ only in their indices read alike if these name the same.
 indexed_alike : (m n : Names) (start «end» : ℕ) (body body' : ItemBody) → only_kind body ≡ only_kind body'
@@ -169,10 +153,7 @@ texts_alike m n i j text (cow, at, is) (other, at', is') = rw (at, at') (ap (λ 
 
 -- Columns read alike, and so do raw lines.
 columns_alike : (m n : Names) (owed at : ℕ) (xs ys : List Item) → AreColumns m owed at xs → AreColumns n owed at ys → AlikeChains m n xs ys
-columns_alike m n zero at xs ys h k = let e : xs ≡ [] = h in let f : ys ≡ [] = k in cc
-columns_alike m n (suc owed) at xs ys (i, names, e) (j, names', f) =
-    let own = indexed_alike m n at at (SynthesizeText i) (SynthesizeText j) refl (texts_alike m n i j (spaces (suc owed)) names names') in
-    rw (e, f) (ap (λ (z : Item × Option Named). z ∷ []) own)
+columns_alike m n owed at xs ys h k = grind (arith, indexed_alike, SynthesizeText, texts_alike, Item)
 
 -- columns, followed by items without indices
 line_alike : (m n : Names) (owed at : ℕ) (more xs ys : List Item) → HaveNoIndex more
@@ -211,10 +192,7 @@ table_alike m n start end i j alignments h k = indexed_alike m n start end (Tabl
 -- footnote definitions whose indices name the same label
 pub label_named : (m n : Names) (columns : ℕ) (i j : CowIndex) (written label : List ℕ) → NamesLabel m i written label → NamesLabel n j written label
     → AlikeNodes m n (label_node (FootnoteMarker columns i label)) (label_node (FootnoteMarker columns j label))
-label_named m n columns i j written label h k =
-    ap (λ (z : Item × Option Named). (0, z) ∷ [])
-    (indexed_alike m n 0 0 (FootnoteDefinition i) (FootnoteDefinition j) refl
-    (texts_alike m n i j label (h.named, h.at, h.text) (k.named, k.at, k.text)))
+label_named m n columns i j written label h k = grind (arith, Item, indexed_alike, FootnoteDefinition, texts_alike)
 
 pub heading_alike : (m n : Names) (start «end» : ℕ) (level : HeadingLevel) (i j : Option HeadingIndex) (attributes : Option Attributes)
     → NamesAttributes m i attributes
@@ -223,8 +201,7 @@ heading_alike m n start end level i j attributes h k = grind (arith, indexed_ali
 
 -- Tightening a paragraph does not change an item's index.
 tight_index : (b : ItemBody) → index_of (tight_body b) ≡ index_of b
-tight_index Paragraph = refl
-tight_index b = refl
+tight_index b = grind arith
 
 -- a node as it is read, after tightening
 abbrev pub tight_read : ℕ → ℕ × (Item × Option Named) → ℕ × (Item × Option Named)
@@ -232,8 +209,7 @@ tight_read depth x = (x.0, if x.0 == depth then (node_of x.1.0.start x.1.0.«end
 
 read_tight_by : (m : Names) (t : Bool) (x : Item) → read m (if t then node_of x.start x.«end» (tight_body x.body) else x)
     ≡ (if t then (node_of x.start x.«end» (tight_body (read m x).0.body), (read m x).1) else read m x)
-read_tight_by m true x = rw ((kind_tests x.body).3, tight_index x.body) refl
-read_tight_by m false x = refl
+read_tight_by m t x = grind (arith, kind_tests, tight_index)
 
 pub read_tight : (m : Names) (depth : ℕ) (nodes : List (ℕ × Item)) → read_nodes m (map (tightened depth) nodes) ≡ map (tight_read depth) (read_nodes m nodes)
 read_tight m depth [] = refl

@@ -1,5 +1,5 @@
 -- Rows with cells that read alike read alike themselves.
-use Rattle.std.proofs.Common.{◌≡◌, ℕ, ◌-◌, List, [], ◌∷◌, ◌++◌, length, take, replicate, refl, ap, subst, arith}
+use Rattle.std.proofs.Common.{◌≡◌, ℕ, ◌-◌, List, ◌∷◌, length, replicate, refl, ap, arith, []}
 use Rattle.first_pass_grammar.proofs.Common.{AllZip, Item, ItemBody, block_of, Names, read, node_of, cell_block, inserted, side_by_side, row_cells, row_block}
 use Rattle.std.proofs.lemmas.List.Elements.{length_all_zip}
 use Rattle.first_pass_grammar.proofs.Each.EachPair.{first_pairs, pair_copies, both_pairs}
@@ -28,10 +28,6 @@ pub row_alike : (m n : Names) (body : ItemBody) (columns start : ℕ) (cells cel
 row_alike m n body columns start cells cells' stop own are =
     let empty : List (ℕ × Item) = cell_block stop stop [] in
     let node_bound : inserted columns cells ≡ inserted columns cells' = ap (λ (k : ℕ). columns - k) (as_many m n cells cells' are) in
-    let copies : AlikeBlocks m n (replicate (inserted columns cells) empty) (replicate (inserted columns cells') empty) =
-    subst (λ (k : ℕ). AlikeBlocks m n (replicate (inserted columns cells) empty) (replicate k empty)) node_bound
-    (pair_copies (AlikeNodes m n) (inserted columns cells) empty empty refl) in
+    let copies : AlikeBlocks m n (replicate (inserted columns cells) empty) (replicate (inserted columns cells') empty) = grind (arith, pair_copies) in
     own_alike m n (node_of start stop body) (node_of start stop body) (row_cells columns cells stop) (row_cells columns cells' stop) own
-    (side_alike m n (take columns cells ++ replicate (inserted columns cells) empty) (take columns cells' ++ replicate (inserted columns cells') empty)
-    (both_pairs (AlikeNodes m n) (take columns cells) (replicate (inserted columns cells) empty) (take columns cells') _
-    (first_pairs (AlikeNodes m n) columns cells cells' are) copies))
+    (grind (arith, side_alike, both_pairs, first_pairs))

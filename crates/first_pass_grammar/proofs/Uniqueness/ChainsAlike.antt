@@ -1,6 +1,6 @@
 -- Lines whose tokens differ only in the indices of the texts that they name read alike, and so do their chains.
-use Rattle.std.proofs.Common.{◌≡◌, ℕ, ◌+◌, ◌-◌, ◌==◌, ◌&&◌, Bool, true, false, nat_lt, List, [], ◌∷◌, ◌++◌, map, slice_get, Option, Some, None, IfSome, refl}
-use Rattle.std.proofs.Common.{sym, ap, ◌∙◌, subst, if◌then◌else◌, option_and_then, option_map, arith}
+use Rattle.std.proofs.Common.{◌≡◌, ℕ, ◌+◌, ◌-◌, ◌==◌, ◌&&◌, Bool, false, nat_lt, List, ◌∷◌, ◌++◌, map, slice_get, Option, None, IfSome, refl, sym, ap, ◌∙◌}
+use Rattle.std.proofs.Common.{if◌then◌else◌, option_and_then, option_map, arith, []}
 use Rattle.first_pass_grammar.proofs.Common.{CowStr, text_of, CowIndex, Item, ItemBody, SynthesizeText, is_escaped, cut_item, text_token, add_token, add_text}
 use Rattle.first_pass_grammar.proofs.Common.{close_break, cut, Names, Named, AText, TextAt, index_of, only_kind, named, read, chain_end}
 use Rattle.first_pass_grammar.proofs.Common.{add_break, heading_chain, marker_items}
@@ -11,8 +11,7 @@ use Rattle.first_pass_grammar.proofs.Uniqueness.Alike.{AlikeChains, chains_appen
 
 -- the index of a text names the text at its place among those that are named
 read_text : (o : Option CowStr) → option_map (λ (cow : CowStr). AText (text_of cow)) o ≡ option_map AText (option_map text_of o)
-read_text None = refl
-read_text (Some cow) = refl
+read_text o = grind arith
 
 texts_read : (m n : Names) (ix iy : CowIndex) → text_among m.texts ix ≡ text_among n.texts iy → named m (TextAt ix) ≡ named n (TextAt iy)
 texts_read m n ix iy same = read_text (slice_get m.texts ix.0) ∙ ap (option_map AText) same ∙ sym (read_text (slice_get n.texts iy.0))
@@ -25,8 +24,7 @@ none_read : (m n : Names) (b c : ItemBody) → index_of b ≡ None → b ≡ c �
 none_read m n b c none same = grind arith
 
 bodies_read : (m n : Names) (b c : ItemBody) → HasTextIndex b → BodiesAlike m.texts n.texts b c → ReadAlike m n b c
-bodies_read m n (SynthesizeText ix) c free h = subst (ReadAlike m n (SynthesizeText ix)) (sym h.1) (refl, texts_read m n ix h.0 h.2)
-bodies_read m n b c free h = none_read m n b c free h
+bodies_read m n b c free h = grind (arith, SynthesizeText, texts_read, none_read)
 
 item_reads : (m n : Names) (x y : Item) → HasTextIndex x.body → ItemsAlike m.texts n.texts x y → read m x ≡ read n y
 item_reads m n x y free h = grind (arith, bodies_read)
@@ -46,19 +44,16 @@ text_alike m n from to escaped xs us h =
 
 -- chains with a break added to each, or with the part of the break that stays after the last line
 pub close_alike : (m n : Names) (o : Option Item) (xs us : List Item) → AlikeChains m n xs us → AlikeChains m n (close_break o xs) (close_break o us)
-close_alike m n None xs us h = h
-close_alike m n (Some x) xs us h = grind (arith, chosen, text_alike)
+close_alike m n o xs us h = grind (arith, chosen, text_alike)
 
 pub break_alike : (m n : Names) (o : Option Item) (xs us : List Item) → IfSome o HasNoIndex → AlikeChains m n xs us
     → AlikeChains m n (add_break o xs) (add_break o us)
-break_alike m n None xs us free h = h
-break_alike m n (Some x) xs us free h = chains_append m n xs us (x ∷ []) (x ∷ []) h (ap (λ z. z ∷ []) (only_reads m n x free))
+break_alike m n o xs us free h = grind (arith, chains_append, only_reads)
 
 -- chains with a marker before each
 pub marked_alike : (m n : Names) (marker : Option Item) (xs us : List Item) → IfSome marker HasNoIndex → AlikeChains m n xs us
     → AlikeChains m n (marker_items marker ++ xs) (marker_items marker ++ us)
-marked_alike m n None xs us free h = h
-marked_alike m n (Some x) xs us free h = grind (arith, only_reads)
+marked_alike m n marker xs us free h = grind (arith, only_reads)
 
 -- chains that read alike end at the same place
 abbrev end_read : ℕ → List (Item × Option Named) → ℕ
@@ -89,16 +84,11 @@ cut_by : (m : Names) (e : ℕ) (x : Item) (xs : List Item) (rest : List (Item ×
     → map (read m) (if t then (if v then record x { «end» = e } else x) ∷ xs else (if u then text_token (e - 1) e false ∷ [] else []))
     ≡ (if t then ((if v then record (read m x).0 { «end» = e } else (read m x).0), (read m x).1) ∷ rest
     else (if u then (text_token (e - 1) e false, None) ∷ [] else []))
-cut_by m e x xs rest true u true h = ap (λ z. read m (record x { «end» = e }) ∷ z) h
-cut_by m e x xs rest true u false h = ap (λ z. read m x ∷ z) h
-cut_by m e x xs rest false true v h = refl
-cut_by m e x xs rest false false v h = refl
+cut_by m e x xs rest t u v h = grind arith
 
 read_cut : (m : Names) (e : ℕ) (xs : List Item) → map (read m) (cut e xs) ≡ cut_read e (map (read m) xs)
 read_cut m e [] = refl
-read_cut m e (x ∷ xs) =
-    rw (kind_tests x.body).1
-    (cut_by m e x (cut e xs) _ (nat_lt x.start e) (is_escaped x.body && (x.start == e)) (nat_lt e x.«end») (read_cut m e xs))
+read_cut m e (x ∷ xs) = grind (arith, kind_tests, cut_by, read_cut m e xs)
 
 pub cut_alike : (m n : Names) (e : ℕ) (xs us : List Item) → AlikeChains m n xs us → AlikeChains m n (cut e xs) (cut e us)
 cut_alike m n e xs us h = read_cut m e xs ∙ ap (cut_read e) h ∙ sym (read_cut n e us)

@@ -1,8 +1,8 @@
 -- Paragraphs and headings have one chain, apart from the indices of the texts that it names.
-use Rattle.std.proofs.Common.{◌≡◌, inl, inr, ℕ, List, [], ◌∷◌, Option, IfSome, refl, sym, ap, ◌∙◌, subst, true≢false}
-use Rattle.first_pass_grammar.proofs.Common.{HeadingIndex, Item, Place, offset, Inline, MathBraces, Spot, spot, AreLineTokens, add_tokens, close_break, Names}
-use Rattle.first_pass_grammar.proofs.Common.{at_rest, front, unindented, before_attributes, Document, content_at, heading_content, heading_chain, kept_len}
-use Rattle.first_pass_grammar.proofs.Common.{line_bytes, add_break, IsHeading, TextLines, text_lines, AreTextLines}
+use Rattle.std.proofs.Common.{◌≡◌, inl, inr, ℕ, List, ◌∷◌, Option, IfSome, refl, sym, ◌∙◌, true≢false, [], arith}
+use Rattle.first_pass_grammar.proofs.Common.{HeadingIndex, Item, Place, offset, Inline, MathBraces, Spot, spot, AreLineTokens, add_tokens, Names, at_rest}
+use Rattle.first_pass_grammar.proofs.Common.{front, unindented, Document, content_at, heading_content, add_break, IsHeading, TextLines, text_lines}
+use Rattle.first_pass_grammar.proofs.Common.{AreTextLines}
 use Rattle.first_pass_tokens.proofs.AlikeLemmas.{one_line}
 use Rattle.first_pass_grammar.specs.declared.kind.Container.{Container}
 use Rattle.first_pass_grammar.proofs.Names.NoIndex.{IsWithoutIndex, HasNoIndex, HasTextIndex, tokens_textual}
@@ -56,14 +56,4 @@ pub one_heading : (d : Document) (n : Names) (start : ℕ) (i i' : Option Headin
     → IsHeading (with_names d n) start i' c' e' → AlikeChains d.names n c c' × (e ≡ e')
 one_heading d n start i i' c c' e e' h h' =
     let o = one_line_read d n (heading_content d start) h.tokens h'.tokens h.answer h'.answer h.after h'.after h.line h'.line in
-    let kept : ℕ = kept_len (before_attributes d.options (line_bytes d start)) in
-    let given : List Item = heading_chain kept start (close_break h.answer.1 (add_tokens [] h'.tokens)) in
-    let other : c' ≡ given =
-    h'.chain_is ∙ ap (λ (z : ℕ × Option Item). heading_chain kept start (close_break z.1 (add_tokens [] h'.tokens))) (sym o.1) in
-    let alike : AlikeChains d.names n (heading_chain kept start (close_break h.answer.1 (add_tokens [] h.tokens))) given =
-    heading_chain_alike d.names n kept start (close_break h.answer.1 (add_tokens [] h.tokens)) (close_break h.answer.1 (add_tokens [] h'.tokens))
-    (close_alike d.names n h.answer.1 (add_tokens [] h.tokens) (add_tokens [] h'.tokens) (tokens_alike d.names n [] [] h.tokens h'.tokens refl o.0)) in
-    let one : List Item = heading_chain kept start (close_break h.answer.1 (add_tokens [] h.tokens)) in (
-      subst (λ z. AlikeChains d.names n z c') (sym h.chain_is) (subst (λ z. AlikeChains d.names n one z) (sym other) alike),
-      h.end_is ∙ sym h'.end_is,
-    )
+    grind (arith, heading_chain_alike, close_alike, tokens_alike)

@@ -1,20 +1,18 @@
 -- The rows of skeletons that are alike are alike too, and their items read alike.
-use Rattle.std.proofs.Common.{◌≡◌, ℕ, suc, ◌||◌, not, Bool, true, false, List, [], ◌∷◌, ◌++◌, map, Option, Some, None, refl, sym, ap, ◌∙◌, subst}
-use Rattle.std.proofs.Common.{if◌then◌else◌, option_map, arith}
+use Rattle.std.proofs.Common.{◌≡◌, ℕ, suc, ◌||◌, not, Bool, false, List, ◌∷◌, ◌++◌, map, Option, Some, None, refl, sym, ap, ◌∙◌, subst, if◌then◌else◌}
+use Rattle.std.proofs.Common.{option_map, arith, []}
 use Rattle.first_pass_grammar.proofs.Common.{Item, DefinitionListTitle, at_depth, Names, Named, read_nodes, Kind, LeafBlock, BlankLine, Block, Head, Opener}
-use Rattle.first_pass_grammar.proofs.Common.{QuoteMarker, ItemMarker, FootnoteMarker, DefinitionMarker, opened, Skeleton, Nil, Then, Node, with_links}
-use Rattle.first_pass_grammar.proofs.Common.{with_labels, Before, LastOther, nothing, after_blank, after_block, after_container, before_end, LastParagraph}
-use Rattle.first_pass_grammar.proofs.Common.{is_paragraph_body, begins_paragraph, is_run, is_quote, What, ALeaf, AFootnote, Row, Rows, End, OneOf, gapped}
-use Rattle.first_pass_grammar.proofs.Common.{any_gap, is_loose, Joins, ItemsOf, DefinitionsTo, ATitle, continues_list, Definitions, apart_after, is_untitled}
-use Rattle.first_pass_grammar.proofs.Common.{is_run_row, definitions_first, titled, leaf_row, gap_before, end_of_row, list_until, items_after, list_after}
-use Rattle.first_pass_grammar.proofs.Common.{row_of, row_of_leaf, container_row, rows_of, what_of, as_title, Tables, definitions_of, footnotes_of}
-use Rattle.first_pass_grammar.proofs.Common.{with_all_of, node_of, list_flags, row_items, tight_in, items_of, option_map_or, Last}
+use Rattle.first_pass_grammar.proofs.Common.{QuoteMarker, ItemMarker, FootnoteMarker, DefinitionMarker, opened, Skeleton, Nil, Then, Node, Before, nothing}
+use Rattle.first_pass_grammar.proofs.Common.{after_blank, after_block, after_container, before_end, is_paragraph_body, begins_paragraph, is_quote, What, ALeaf}
+use Rattle.first_pass_grammar.proofs.Common.{AFootnote, Row, Rows, End, OneOf, gapped, any_gap, is_loose, Joins, ItemsOf, DefinitionsTo, ATitle, continues_list}
+use Rattle.first_pass_grammar.proofs.Common.{Definitions, apart_after, is_untitled, is_run_row, definitions_first, titled, leaf_row, gap_before, end_of_row}
+use Rattle.first_pass_grammar.proofs.Common.{list_until, items_after, list_after, row_of, row_of_leaf, container_row, rows_of, what_of, as_title, Tables}
+use Rattle.first_pass_grammar.proofs.Common.{definitions_of, footnotes_of, with_all_of, node_of, list_flags, row_items, tight_in, items_of, option_map_or}
 use Rattle.first_pass_items.specs.declared.item.ItemBody.TheVariants.{BlockQuote as BlockQuoteBody, List as ListBody, ListItem as ListItemBody}
 use Rattle.first_pass_items.specs.declared.item.ItemBody.TheVariants.{FootnoteDefinition as FootnoteDefinitionBody, DefinitionList as DefinitionListBody}
 use Rattle.first_pass_items.specs.declared.item.ItemBody.TheVariants.{DefinitionListDefinition as DefinitionBody}
 use Rattle.first_pass_grammar.specs.declared.kind.Container.{Container}
-use Rattle.first_pass_grammar.specs.Before.{is_after_definition, last_after_run}
-use Rattle.first_pass_grammar.specs.Rows.{AQuote, AList, AnItem, Untitled, WithTitle, Apart, ADefinitionList, ADefinition, end_of_list_before, in_list}
+use Rattle.first_pass_grammar.specs.Rows.{AQuote, AList, AnItem, Untitled, ADefinitionList, ADefinition, end_of_list_before, in_list}
 use Rattle.first_pass_grammar.proofs.Uniqueness.Alike.{AlikeNodes, AlikeLeaf, AlikeHead, stands, only_head, only_opener, label_node, opened_alike, chosen}
 use Rattle.first_pass_grammar.proofs.Uniqueness.Alike.{label_alike, kind_tests, Alike, nodes_append, tight_read, read_tight, read_at_depth}
 
@@ -61,14 +59,7 @@ facts joins last tight loose row = (
 facts_bare : (joins : Joins) (last : ℕ) (tight loose : Bool) (line start : ℕ) (gap : Bool) (w : What)
     → facts joins last tight loose (record { what = bare_what w; line = line; start = start; gap = gap })
     ≡ facts joins last tight loose (record { what = w; line = line; start = start; gap = gap })
-facts_bare (ItemsOf byte) last tight loose line start gap (ALeaf b) = refl
-facts_bare (ItemsOf byte) last tight loose line start gap (AFootnote index e) = refl
-facts_bare (ItemsOf byte) last tight loose line start gap (ATitle b) = refl
-facts_bare (ItemsOf byte) last tight loose line start gap w = refl
-facts_bare (DefinitionsTo e) last tight loose line start gap (ALeaf b) = refl
-facts_bare (DefinitionsTo e) last tight loose line start gap (AFootnote index x) = refl
-facts_bare (DefinitionsTo e) last tight loose line start gap (ATitle b) = refl
-facts_bare (DefinitionsTo e) last tight loose line start gap w = refl
+facts_bare joins last tight loose line start gap w = grind arith
 
 facts_alike : (m n : Names) (joins : Joins) (last : ℕ) (tight loose : Bool) (row row' : Row) → AlikeRow m n row row'
     → facts joins last tight loose row ≡ facts joins last tight loose row'
@@ -78,10 +69,7 @@ same_list : (m n : Names) (joins : Joins) (row row' : Row) → AlikeRow m n row 
 same_list m n joins row row' a = ap (λ z. z.0) (facts_alike m n joins 0 false false row row' a)
 
 gapped_alike : (m n : Names) (gap gap' : Bool) (r r' : Rows) → gap ≡ gap' → AlikeRows m n r r' → AlikeRows m n (gapped gap r) (gapped gap' r')
-gapped_alike m n gap gap' End End is a = tt
-gapped_alike m n gap gap' (OneOf row inner next) (OneOf row' inner' next') is a =
-    ((λ i. record { what = (a.0.0 i).what; line = (a.0.0 i).line; start = (a.0.0 i).start; gap = is i }, a.0.1), a.1, a.2)
-gapped_alike m n gap gap' r r' is a = absurd a
+gapped_alike m n gap gap' r r' is a = grind arith
 
 any_alike : (m n : Names) (r r' : Rows) → AlikeRows m n r r' → any_gap r ≡ any_gap r'
 unfolding any_gap
@@ -92,26 +80,17 @@ any_alike m n r r' a = absurd a
 loose_alike : (m n : Names) (r r' : Rows) → AlikeRows m n r r' → is_loose r ≡ is_loose r'
 unfolding is_loose
 loose_alike m n End End a = refl
-loose_alike m n (OneOf row inner next) (OneOf row' inner' next') a =
-    let own = any_alike m n inner inner' a.1 in
-    let more = loose_alike m n next next' a.2 in
-    λ i. (a.0.0 i).gap || (own i || more i)
+loose_alike m n (OneOf row inner next) (OneOf row' inner' next') a = grind (arith, any_alike, loose_alike m n next next' a.2)
 loose_alike m n r r' a = absurd a
 
 until_alike : (m n : Names) (joins : Joins) (last : ℕ) (r r' : Rows) → AlikeRows m n r r' → list_until joins last r ≡ list_until joins last r'
-until_alike m n joins last End End a = refl
-until_alike m n joins last (OneOf row inner next) (OneOf row' inner' next') a = grind (arith, facts_alike)
-until_alike m n joins last r r' a = absurd a
+until_alike m n joins last r r' a = grind (arith, facts_alike)
 
 items_alike : (m n : Names) (joins : Joins) (r r' : Rows) → AlikeRows m n r r' → AlikeRows m n (items_after joins r) (items_after joins r')
-items_alike m n joins End End a = tt
-items_alike m n joins (OneOf row inner next) (OneOf row' inner' next') a = grind (arith, chosen, same_list, gapped_alike)
-items_alike m n joins r r' a = absurd a
+items_alike m n joins r r' a = grind (arith, chosen, same_list, gapped_alike)
 
 past_alike : (m n : Names) (joins : Joins) (r r' : Rows) → AlikeRows m n r r' → AlikeRows m n (list_after joins r) (list_after joins r')
-past_alike m n joins End End a = a
-past_alike m n joins (OneOf row inner next) (OneOf row' inner' next') a = grind (arith, chosen, same_list)
-past_alike m n joins r r' a = absurd a
+past_alike m n joins r r' a = grind (arith, chosen, same_list)
 
 ends_alike : (m n : Names) (last : ℕ) (row row' : Row) → AlikeRow m n row row' → end_of_row row.what last ≡ end_of_row row'.what last
 ends_alike m n last row row' a = ap (λ z. z.1) (facts_alike m n (ItemsOf 0) last false false row row' a)
@@ -121,12 +100,7 @@ module _ (m n : Names) where
   list_alike : (last : ℕ) (what : ℕ → What) (joins : Joins) (row row' : Row) (inner inner' next next' : Rows)
       → ((e : ℕ) → inside (what e) ≡ []) → AlikeRows m n (OneOf row inner next) (OneOf row' inner' next')
       → AlikeRows m n (in_list last what row inner next joins) (in_list last what row' inner' next' joins)
-  list_alike last what joins row row' inner inner' next next' none a =
-      let until = until_alike m n joins last next next' a.2 in (
-        (λ i. record { what = bare_what (what (until i)); line = (a.0.0 i).line; start = (a.0.0 i).start; gap = (a.0.0 i).gap }, simp none),
-        ((gapped_alike m n false false (OneOf row inner End) (OneOf row' inner' End) refl (a.0, a.1, tt)).0, a.1, items_alike m n joins next next' a.2),
-        past_alike m n joins next next' a.2,
-      )
+  list_alike last what joins row row' inner inner' next next' none a = grind (arith, until_alike, gapped_alike, items_alike, past_alike)
 
 -- containers with the same opener, before alike rows
 container_alike : (m n : Names) (last : ℕ) (o : Opener) (row row' : Row) (inner inner' next next' : Rows)
@@ -143,16 +117,13 @@ container_alike m n last (DefinitionMarker columns) row row' inner inner' next n
 
 -- the rows of a container do not depend on the index of its label, and neither does its row without that index
 only_row : (last : ℕ) (o : Opener) (row : Row) (inner next : Rows) → container_row last (only_opener o) row inner next ≡ container_row last o row inner next
-only_row last (FootnoteMarker columns index label) row inner next = refl
-only_row last o row inner next = refl
+only_row last o row inner next = grind arith
 
 only_what : (o : Opener) (e : ℕ) → what_of (only_opener o) e ≡ bare_what (what_of o e)
-only_what (FootnoteMarker columns index label) e = refl
-only_what o e = refl
+only_what o e = grind arith
 
 label_inside : (o : Opener) (e : ℕ) → inside (what_of o e) ≡ label_node o
-label_inside (FootnoteMarker columns index label) e = refl
-label_inside o e = refl
+label_inside o e = grind arith
 
 -- the rows of containers that begin alike
 head_alike : (m n : Names) (head head' : Head) (e e' : ℕ) (gap : Bool) → AlikeHead m n head head' → e ≡ e'
@@ -171,8 +142,7 @@ begins_read [] = false
 begins_read (x ∷ more) = is_paragraph_body x.1.0.body
 
 begins_is : (m : Names) (items : List (ℕ × Item)) → begins_read (read_nodes m items) ≡ begins_paragraph items
-begins_is m [] = refl
-begins_is m (x ∷ items) = (kind_tests x.1.body).2
+begins_is m items = grind (arith, kind_tests)
 
 -- If of two blocks that are alike one is a paragraph, so is the other.
 pub begins_alike : (m n : Names) (items items' : List (ℕ × Item)) → AlikeNodes m n items items' → begins_paragraph items ≡ begins_paragraph items'
@@ -180,10 +150,7 @@ begins_alike m n items items' a = sym (begins_is m items) ∙ ap begins_read a �
 
 -- alike blocks precede what follows them in the same way
 pub after_alike : (m n : Names) (before : Before) (b b' : LeafBlock) → AlikeLeaf m n (Block b) (Block b') → after_block before b ≡ after_block before b'
-after_alike m n before b b' a =
-    let begins = begins_alike m n b.items b'.items a.1 in
-    let other : Kind → Last = λ k. if is_run k then last_after_run before.last else LastOther in
-    λ i. record { last = if begins i then LastParagraph (is_after_definition before.last) else other (a.0 i).0; counted = a.2 i }
+after_alike m n before b b' a = grind (arith, begins_alike)
 
 -- the definitions at the start of alike rows
 abbrev AlikeFirst : Names → Names → Option Definitions → Option Definitions → Type 0
@@ -194,9 +161,7 @@ AlikeFirst m n _ _ = ⊥
 
 apart_alike : (m n : Names) (row row' : Row) (inner inner' : Rows) (o o' : Option Definitions) → AlikeRow m n row row' → AlikeRows m n inner inner'
     → AlikeFirst m n o o' → AlikeFirst m n (option_map (apart_after row inner) o) (option_map (apart_after row' inner') o')
-apart_alike m n row row' inner inner' None None a b f = tt
-apart_alike m n row row' inner inner' (Some ds) (Some ds') a b f = (f.0, refl, f.2, (a, b, f.3))
-apart_alike m n row row' inner inner' o o' a b f = absurd f
+apart_alike m n row row' inner inner' o o' a b f = grind arith
 
 first_alike : (m n : Names) (r r' : Rows) → AlikeRows m n r r' → AlikeFirst m n (definitions_first r) (definitions_first r')
 unfolding definitions_first
@@ -209,14 +174,7 @@ first_alike m n r r' a = absurd a
 titled_alike : (m n : Names) (b b' : LeafBlock) (gap : Bool) (o o' : Option Definitions) (next next' : Rows) → AlikeLeaf m n (Block b) (Block b')
     → AlikeFirst m n o o' → AlikeRows m n next next' → AlikeRows m n (option_map_or (titled b gap) o (OneOf (row_of_leaf b gap) End next))
     (option_map_or (titled b' gap) o' (OneOf (row_of_leaf b' gap) End next'))
-titled_alike m n b b' gap None None next next' (is, items, own, same) f a = ((leaf_bare b b' gap is own, items), tt, a)
-titled_alike m n b b' gap None (Some ds') next next' own f a = absurd f
-titled_alike m n b b' gap (Some ds) None next next' own f a = absurd f
-titled_alike m n b b' gap (Some ds) (Some ds') next next' (is, items, own, same) f a = (
-  (λ i. record { what = ADefinitionList (if f.1 i then Apart else WithTitle) (f.0 i); line = (is i).1; start = (is i).2; gap = gap }, refl),
-  ((λ i. record { what = ATitle (bare_block (is i) (own i)); line = (is i).1; start = (is i).2; gap = false }, items), tt, f.2),
-  f.3,
-)
+titled_alike m n b b' gap o o' next next' own f a = grind (arith, leaf_bare)
 
 leaf_alike : (m n : Names) (before : Before) (b b' : LeafBlock) (next next' : Rows) → AlikeLeaf m n (Block b) (Block b') → AlikeRows m n next next'
     → AlikeRows m n (leaf_row b (gap_before before b) next) (leaf_row b' (gap_before before b') next')
@@ -235,8 +193,7 @@ unfolding before_end
 end_alike m n quoted before Nil Nil a = refl
 end_alike m n quoted before (Then BlankLine next) (Then BlankLine next') a = end_alike m n quoted (after_blank quoted before) next next' a.1
 end_alike m n quoted before (Then (Block b) next) (Then (Block b') next') a =
-    end_alike m n quoted (after_block before b) next next' a.1
-    ∙ ap (λ z. before_end quoted z next') (after_alike m n before b b' a.0)
+    grind (arith, after_alike, end_alike m n quoted (after_block before b) next next' a.1)
 end_alike m n quoted before (Then leaf next) (Then leaf' next') a = absurd a.0
 end_alike m n quoted before (Node head e kids next) (Node head' e' kids' next') a =
     let quote : Bool = is_quote (opened head.opener) in
@@ -276,8 +233,7 @@ title_shown [] = []
 title_shown (x ∷ more) = (x.0, (node_of x.1.0.start x.1.0.«end» DefinitionListTitle, None)) ∷ more
 
 title_read : (m : Names) (items : List (ℕ × Item)) → read_nodes m (as_title items) ≡ title_shown (read_nodes m items)
-title_read m [] = refl
-title_read m (x ∷ items) = refl
+title_read m items = grind arith
 
 -- a row as it is read
 abbrev shown : ℕ → Bool → Bool → ℕ → What → List (ℕ × (Item × Option Named)) → List (ℕ × (Item × Option Named))
@@ -292,10 +248,7 @@ shown depth tight loose start (ADefinition columns e) items = (depth, (node_of s
 
 shown_is : (m : Names) (depth : ℕ) (tight loose : Bool) (start : ℕ) (w : What)
     → read_nodes m (row_items depth tight loose start w) ≡ shown depth tight loose start (bare_what w) (read_nodes m (inside w))
-shown_is m depth true loose start (ALeaf b) = read_tight m depth (at_depth depth b.items) ∙ ap (map (tight_read depth)) (read_at_depth m depth b.items)
-shown_is m depth false loose start (ALeaf b) = read_at_depth m depth b.items
-shown_is m depth tight loose start (ATitle b) = read_at_depth m depth (as_title b.items) ∙ ap (at_depth depth) (title_read m b.items)
-shown_is m depth tight loose start w = refl
+shown_is m depth tight loose start w = grind (arith, read_tight, tight_read, read_at_depth, title_read)
 
 -- the items of alike rows read alike
 rows_read : (m n : Names) (depth : ℕ) (tight : Bool) (r r' : Rows) → AlikeRows m n r r' → AlikeNodes m n (items_of depth tight r) (items_of depth tight r')
@@ -303,16 +256,15 @@ unfolding items_of
 rows_read m n depth tight End End a = refl
 rows_read m n depth tight (OneOf row inner next) (OneOf row' inner' next') a =
     let loose : Bool = is_loose inner in
-    let loose' : Bool = is_loose inner' in
-    let same : loose ≡ loose' = loose_alike m n inner inner' a.1 in
-    let one : AlikeNodes m n (row_items depth tight loose row.start row.what) (row_items depth tight loose' row'.start row'.what) =
-    shown_is m depth tight loose row.start row.what ∙ (λ i. shown depth tight (same i) (a.0.0 i).start (a.0.0 i).what (a.0.1 i))
-    ∙ sym (shown_is n depth tight loose' row'.start row'.what) in
-    let t : tight_in tight loose row.what ≡ tight_in tight loose' row'.what =
-    ap (λ z. z.3) (facts_alike m n (ItemsOf 0) 0 tight loose row row' a.0) ∙ ap (λ z. tight_in tight z row'.what) same in
-    let kids : AlikeNodes m n (items_of (suc depth) (tight_in tight loose row.what) inner) (items_of (suc depth) (tight_in tight loose' row'.what) inner') =
-    rows_read m n (suc depth) (tight_in tight loose row.what) inner inner' a.1 ∙ ap (λ z. read_nodes n (items_of (suc depth) z inner')) t in
-    nodes_append m n _ _ _ _ one (nodes_append m n _ _ _ _ kids (rows_read m n depth tight next next' a.2))
+    grind (
+      arith,
+      loose_alike,
+      shown_is,
+      facts_alike,
+      nodes_append,
+      rows_read m n (suc depth) (tight_in tight loose row.what) inner inner' a.1,
+      rows_read m n depth tight next next' a.2,
+    )
 rows_read m n depth tight r r' a = absurd a
 
 -- the items of alike skeletons read alike
@@ -327,14 +279,8 @@ same_told m n Nil Nil a = (refl, refl)
 same_told m n (Then BlankLine next) (Then BlankLine next') a = same_told m n next next' a.1
 same_told m n (Then (Block b) next) (Then (Block b') next') a = (let more = same_told m n next next' a.1 in (λ i. a.0.3 i ++ more.0 i, more.1))
 same_told m n (Then leaf next) (Then leaf' next') a = absurd a.0
-same_told m n (Node head e kids next) (Node head' e' kids' next') a =
-    let label = label_alike head head' a.0.0 in
-    let inner = same_told m n kids kids' a.2 in
-    let more = same_told m n next next' a.3 in
-    (λ i. inner.0 i ++ more.0 i, λ i. label i ++ (inner.1 i ++ more.1 i))
+same_told m n (Node head e kids next) (Node head' e' kids' next') a = grind (arith, label_alike, same_told m n kids kids' a.2, same_told m n next next' a.3)
 same_told m n s t a = absurd a
 
 pub told_alike : (m n : Names) (tables : Tables) (s t : Skeleton) → Alike m n s t → with_all_of tables s ≡ with_all_of tables t
-told_alike m n tables s t a =
-    let same = same_told m n s t a in
-    λ i. record { links = with_links tables.links (same.0 i); footnotes = with_labels tables.footnotes (same.1 i) }
+told_alike m n tables s t a = grind (arith, same_told)

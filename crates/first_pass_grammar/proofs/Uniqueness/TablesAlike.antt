@@ -1,15 +1,13 @@
 -- A row has one list of cells, and a text reads alike under all names.
-use Rattle.std.proofs.Common.{◌≡◌, ◌⊎◌, inl, inr, ℕ, ◌+◌, ◌-◌, ◌&&◌, nat_lt, nat_le, true, false, List, [], ◌∷◌, ◌++◌, length, drop, Option, Some, None}
-use Rattle.std.proofs.Common.{MatchOption, IfSome, is_some, refl, sym, ap, ◌∙◌, subst, true≢false, arith}
+use Rattle.std.proofs.Common.{◌≡◌, ◌⊎◌, inl, inr, ℕ, ◌+◌, ◌-◌, ◌&&◌, nat_lt, nat_le, true, false, List, ◌∷◌, ◌++◌, length, drop, Option, Some, None}
+use Rattle.std.proofs.Common.{MatchOption, IfSome, is_some, refl, sym, ap, ◌∙◌, true≢false, arith, []}
 use Rattle.first_pass_grammar.proofs.Common.{none-some, same_Some, Alignment, HeadingLevel, Item, Heading, Paragraph, Table, TableHead, TableRow, TableCell}
-use Rattle.first_pass_grammar.proofs.Common.{Place, offset, start_of, Braces, MathBraces, no_braces, Spot, spot, Inline, Names, read_nodes, Document, around}
-use Rattle.first_pass_grammar.proofs.Common.{TextLines, text_lines, headed_table, node_of, cell_content, cell_start, cell_text, cell_block, AreCells}
-use Rattle.first_pass_grammar.proofs.Common.{inserted, row_block, Taken, taking, FoundRow, HasCells, TableSoFar, table_so_far, AreRows, most_inserted}
-use Rattle.first_pass_grammar.proofs.Common.{IsTable, heading_attributes_of, IsPlainText, IsText, IsUnderlined, text_children, children_without}
-use Rattle.first_pass_grammar.proofs.Common.{heading_bytes, heading_children, plain_text, underline_first}
+use Rattle.first_pass_grammar.proofs.Common.{Place, offset, start_of, Braces, MathBraces, no_braces, Spot, spot, Inline, Names, Document, around, TextLines}
+use Rattle.first_pass_grammar.proofs.Common.{text_lines, headed_table, node_of, cell_content, cell_start, cell_text, AreCells, inserted, row_block, Taken}
+use Rattle.first_pass_grammar.proofs.Common.{taking, FoundRow, HasCells, TableSoFar, table_so_far, AreRows, most_inserted, IsTable, IsPlainText, IsText}
+use Rattle.first_pass_grammar.proofs.Common.{IsUnderlined, text_children, children_without, heading_bytes, heading_children, plain_text}
 use Rattle.first_pass_tokens.proofs.AlikeLemmas.{one_cell}
 use Rattle.first_pass_grammar.specs.declared.kind.Container.{Container}
-use Rattle.first_pass_grammar.specs.Texts.{IsEnded}
 use Rattle.first_pass_grammar.proofs.Count.RowsWithRoom.{is_row, with_row, RowsWithRoom, counted}
 use Rattle.first_pass_grammar.proofs.Names.NoIndex.{HasNoIndex, HasTextIndex, tokens_textual}
 use Rattle.first_pass_grammar.proofs.Each.EachToken.{cell_each}
@@ -36,10 +34,7 @@ one_cells d n p (x ∷ xs) (y ∷ ys) e f (on, t, s, c, is, more) (on', t', s', 
     let next : s ≡ s' = λ i. spot (o.1 i) (o.2 i) in
     let r = one_cells d n s xs ys e f more (rw next more') in
     let tokens = alike_reads d.names n t t' (cell_each d.names.texts HasTextIndex (tokens_textual d.names.texts) source t s.at c) o.0 in
-    let block = block_alike d.names n start s.at TableCell TableCell t t' refl tokens in
-    let first : AlikeNodes d.names n x y =
-    ap (read_nodes d.names) is ∙ block ∙ sym (ap (read_nodes n) (is' ∙ ap (λ z. cell_block start z t') (sym o.1))) in
-    ((first, r.0), r.1)
+    grind (arith, block_alike d.names n start s.at TableCell TableCell t t' refl tokens)
 
 -- what is taken after a row with these cells
 abbrev AfterRow : Document → List Container → TableSoFar → Place → List Place → Taken → FoundRow → Type 0
@@ -63,8 +58,7 @@ same_row : (table : TableSoFar) (m n : Names) (cells cells' : List (List (ℕ ×
 same_row table m n cells cells' are = ap (λ (k : ℕ). nat_lt 0 k && nat_le (table.columns - k) table.room) (as_many m n cells cells' are)
 
 same_table : (table : TableSoFar) (m n : Names) (row other : FoundRow) → AlikeRows m n row other → with_row table row ≡ with_row table other
-same_table table m n row other are =
-    let many = as_many m n row.cells other.cells are.0 in λ i. table_so_far table.columns (table.room - (table.columns - many i)) (are.3 i)
+same_table table m n row other are = grind (arith, as_many)
 
 -- their blocks read alike
 same_block : (table : TableSoFar) (m n : Names) (row other : FoundRow) → AlikeRows m n row other
@@ -80,17 +74,12 @@ one_row : (d : Document) (n : Names) (path : List Container) (table : TableSoFar
     → HasRow d path table line lines t → HasRow (with_names d n) path table line lines u → AlikeTaken d.names n t u
 one_row d n path table line lines t u f (row, has, inl (h, e)) (other, has', inl (k, g)) = rw (e, g) (refl, refl)
 one_row d n path table line lines t u f (row, has, inl (h, e)) (other, has', inr (k, more, is, g)) =
-    let are = one_found d n path line table.braces row other has has' in
-    absurd (true≢false (sym k ∙ sym (same_row table d.names n row.cells other.cells are.0) ∙ h))
+    grind (arith, one_found d n path line table.braces row other has has', true≢false, same_row)
 one_row d n path table line lines t u f (row, has, inr (h, more, is, e)) (other, has', inl (k, g)) =
-    let are = one_found d n path line table.braces row other has has' in
-    absurd (true≢false (sym h ∙ same_row table d.names n row.cells other.cells are.0 ∙ k))
+    grind (arith, one_found d n path line table.braces row other has has', true≢false, same_row)
 one_row d n path table line lines t u f (row, has, inr (h, a, is, e)) (other, has', inr (k, b, is', g)) =
     let are = one_found d n path line table.braces row other has has' in
-    let rest = f (with_row table row) a b is (rw (same_table table d.names n row other are) is') in
-    let first : List (ℕ × Item) = row_block TableRow table.columns row.start row.cells row.row_end in
-    let second : List (ℕ × Item) = row_block TableRow table.columns other.start other.cells other.row_end in
-    rw (e, g) (nodes_append d.names n first second a.items b.items (same_block table d.names n row other are) rest.0, rest.1)
+    let rest = f (with_row table row) a b is (rw (same_table table d.names n row other are) is') in grind (arith, nodes_append, same_block)
 
 -- lines have one table body, apart from indices
 one_counted : (d : Document) (n : Names) (path : List Container) (lines : List Place) (table : TableSoFar) (t u : Taken)
@@ -145,8 +134,7 @@ module _ (d : Document) (n : Names) (start : ℕ) (marker : Option Item) (l : Te
   bytes_alike = grind (arith, ends_alike, marked_alike)
 
   without_alike : (o : Option Braces) → AlikeChains d.names n (children_without d start marker l o) (children_without d start marker given o)
-  without_alike None = children_alike
-  without_alike (Some block) = grind (arith, cut_alike, marked_alike, close_alike, bytes_alike)
+  without_alike o = grind (arith, children_alike, cut_alike, marked_alike, close_alike, bytes_alike)
 
   heading_children_alike : AlikeChains d.names n (heading_children d start marker l) (heading_children d start marker given)
   unfolding heading_children
@@ -169,8 +157,7 @@ module _ (d : Document) (n : Names) (start : ℕ) (marker : Option Item) (l : Te
       rw (e, f) (
         block_alike d.names n start stop (Heading underline.1 i) (Heading underline.1 j) (heading_children d start marker l)
             (heading_children d start marker given)
-            (heading_alike d.names n start stop underline.1 i j (heading_attributes_of d.options (heading_bytes d start marker l)) named
-            (rw bytes_alike named'))
+            (grind (arith, heading_alike, bytes_alike))
             heading_children_alike,
         refl,
       )
@@ -178,9 +165,7 @@ module _ (d : Document) (n : Names) (start : ℕ) (marker : Option Item) (l : Te
 one_plain : (d : Document) (n : Names) (path : List Container) (p : Place) (marker : Option Item) (lines : List Place) (t u : Taken) → IfSome marker HasNoIndex
     → IsPlainText d path (offset p) marker lines t → IsPlainText (with_names d n) path (offset p) marker lines u → AlikeTaken d.names n t u
 one_plain d n path p marker lines t u free (l, are, is) (l', are', is') =
-    let lines_same = one_lines d n path (spot (offset p) no_braces) [] [] lines l l' refl are are' in
-    one_ended d n (offset p) marker l lines_same.0 free lines_same.1 t u (underline_first path l.left) is
-    (subst (λ (z : TextLines). IsEnded (with_names d n) path (offset p) marker z u) lines_same.2 is')
+    grind (arith, one_lines d n path (spot (offset p) no_braces) [] [] lines l l' refl are are', one_ended)
 
 -- a paragraph, a setext heading or a table reads alike, and leaves the same lines
 text_by : (d : Document) (n : Names) (path : List Container) (p : Place) (marker : Option Item) (lines : List Place) (t u : Taken) (o : Option (List Alignment))

@@ -1,18 +1,17 @@
 -- The grammar derives at most one forest from a text, read through its indices, and at most one pair of tables.
-use Rattle.std.proofs.Common.{◌≡◌, inl, inr, ℕ, ◌+◌, true, false, List, [], ◌∷◌, length, map, Option, Some, None, IfSome, MatchOption, refl, sym, ap, ◌∙◌}
-use Rattle.std.proofs.Common.{subst, true≢false, arith}
-use Rattle.first_pass_grammar.proofs.Common.{Item, Root, Rule, IndentCodeBlock, FencedCodeBlock, MetadataBlock, HtmlBlock, Options, BlockEnd, level_number}
-use Rattle.first_pass_grammar.proofs.Common.{Rest, indent, Place, offset, lines_at, Names, Named, read_nodes, read, Context, at_rest, front, footnote_columns}
+use Rattle.std.proofs.Common.{◌≡◌, inl, inr, ℕ, true, false, List, ◌∷◌, length, Option, Some, None, IfSome, MatchOption, refl, sym, ap, ◌∙◌, subst, true≢false}
+use Rattle.std.proofs.Common.{arith, []}
+use Rattle.first_pass_grammar.proofs.Common.{Item, Root, IndentCodeBlock, FencedCodeBlock, MetadataBlock, HtmlBlock, Options, BlockEnd, level_number, Rest}
+use Rattle.first_pass_grammar.proofs.Common.{indent, Place, offset, lines_at, Names, Named, read_nodes, read, Context, at_rest, front, footnote_columns}
 use Rattle.first_pass_grammar.proofs.Common.{is_quote, Kind, Blank, IndentedCode, Metadata, HtmlToEnd, HtmlToBlank, ThematicBreak, AtxHeading, FencedCode}
-use Rattle.first_pass_grammar.proofs.Common.{LinkDefinitions, unindented, first_kind, IsKindBy, heading_attributes_of, Document, document, around, line_bytes}
-use Rattle.first_pass_grammar.proofs.Common.{heading_text_at, block_with, metadata_kind, until_end, IsHtml, LinkEntry, kind_in, lines_beyond, ends_run}
-use Rattle.first_pass_grammar.proofs.Common.{Beyond, Ended, FlowsOn, IsRun, none-some, same_Some, Leaf, BlankLine, Block, Opener, FootnoteMarker, Head}
-use Rattle.first_pass_grammar.proofs.Common.{label_of, opened, Skeleton, Nil, Then, Node, OpensBeyond, OpensRun, Continues, Line, Blanks, AtPlace, Anything}
-use Rattle.first_pass_grammar.proofs.Common.{OnlyALeaf, TextOf, OnlyMark, opening_of, Opening, OpensLeaf, OpensNode, OpensText, OpensExtent, OpensAs}
-use Rattle.first_pass_grammar.proofs.Common.{OpensBlockAt, Opens, OpensAt, may_define, Level, level, level_in, level_after_leaf, level_after, Remaining}
-use Rattle.first_pass_grammar.proofs.Common.{Lines, InLine, NextBlock, Begins, Ends, next_block, onward, after_first, end_before, IsFirst, IsSequence}
-use Rattle.first_pass_grammar.proofs.Common.{OpensBy, OpensFootnote, Start, start_at, Tables, no_tables, node_of, Derives, range_text, range_html}
-use Rattle.first_pass_grammar.proofs.Common.{AreRawLines, Ranges, nothing, footnote_head_at, ItemBody}
+use Rattle.first_pass_grammar.proofs.Common.{LinkDefinitions, unindented, IsKindBy, heading_attributes_of, Document, document, around, line_bytes, end_before}
+use Rattle.first_pass_grammar.proofs.Common.{heading_text_at, block_with, metadata_kind, until_end, IsHtml, LinkEntry, lines_beyond, ends_run, Beyond, IsRun}
+use Rattle.first_pass_grammar.proofs.Common.{none-some, same_Some, Leaf, Opener, Head, label_of, opened, Skeleton, Nil, Then, Node, OpensBeyond, OpensRun}
+use Rattle.first_pass_grammar.proofs.Common.{Continues, Line, Blanks, AtPlace, Anything, OnlyALeaf, TextOf, OnlyMark, opening_of, Opening, OpensLeaf, OpensNode}
+use Rattle.first_pass_grammar.proofs.Common.{OpensText, OpensExtent, OpensAs, OpensBlockAt, Opens, OpensAt, may_define, Level, level, level_in}
+use Rattle.first_pass_grammar.proofs.Common.{level_after_leaf, level_after, Remaining, Lines, NextBlock, Begins, Ends, next_block, onward, after_first, IsFirst}
+use Rattle.first_pass_grammar.proofs.Common.{IsSequence, OpensBy, OpensFootnote, Start, start_at, Tables, no_tables, node_of, Derives, range_text, AreRawLines}
+use Rattle.first_pass_grammar.proofs.Common.{Ranges, nothing, footnote_head_at, ItemBody}
 use Rattle.first_pass_items.specs.declared.item.ItemBody.TheVariants.{Heading as HeadingBody}
 use Rattle.first_pass_grammar.specs.declared.kind.Container.{Container}
 use Rattle.first_pass_grammar.specs.Kinds.{Paragraph}
@@ -26,7 +25,7 @@ use Rattle.first_pass_grammar.proofs.Sequences.Goings.{same_left}
 use Rattle.first_pass_grammar.proofs.Uniqueness.RowsAlike.{closed_alike, end_alike, forest_alike, told_alike, after_alike}
 use Rattle.first_pass_grammar.proofs.Sequences.PlacesKept.{Anywhere, anywhere_kept, each_anywhere}
 use Rattle.first_pass_grammar.proofs.Each.EachOpening.{HoldsOfContainers, OpensContainer, container_opens, first_from}
-use Rattle.first_pass_grammar.proofs.Names.NamedItems.{IsFree, text_is_free, html_is_free}
+use Rattle.first_pass_grammar.proofs.Names.NamedItems.{IsFree, text_is_free}
 
 -- a place has one kind
 one_kind : (r : Rest) (first : Option Kind) (k k' : Kind) → IsKindBy r first k → IsKindBy r first k' → k ≡ k'
@@ -40,9 +39,7 @@ one_kind r None k k' (inr (other, e)) (inr (other', f)) = e ∙ sym f
 one_text_opening : (d : Document) (n : Names) (path : List Container) (p : Place) (lines : List Place) (marker : Option Item) (o o' : Opening)
     → IfSome marker HasNoIndex → OpensText d path p lines marker o → OpensText (with_names d n) path p lines marker o' → AlikeOpening d.names n o o'
 unfolding OpensText
-one_text_opening d n path p lines marker o o' free (t, is, e) (u, is', f) =
-    let same = one_text d n path (unindented p) marker lines t u free is is' in
-    rw (e, f) ((refl, same.0, refl, refl), refl, tt, same.1)
+one_text_opening d n path p lines marker o o' free h9 h10 = grind (arith, one_text)
 
 -- the items of a block with raw lines read alike if its first item does
 module _ (range : Ranges) (free : IsFree range) (d : Document) (n : Names) (places : List Place) (chain chain' : List Item)
@@ -56,8 +53,7 @@ module _ (range : Ranges) (free : IsFree range) (d : Document) (n : Names) (plac
 
 one_html : (d : Document) (n : Names) (start columns : ℕ) (places : List Place) («end» : ℕ) (xs ys : List (ℕ × Item))
     → IsHtml d start columns places «end» xs → IsHtml (with_names d n) start columns places «end» ys → AlikeNodes d.names n xs ys
-one_html d n start columns places end xs ys h k =
-    raw_block range_html html_is_free d n _ h.chain k.chain h.lines k.lines start end HtmlBlock HtmlBlock xs ys refl h.items_are k.items_are
+one_html d n start columns places end xs ys h k = grind (arith, raw_block, HtmlBlock)
 
 -- one run begins at a place, with one thing after it
 ends_not : (around : Context) (a b : List Place) → ends_run around a ≡ true → a ≡ b → ends_run around b ≡ false → ⊥
@@ -69,9 +65,7 @@ unfolding IsRun
 one_run around p lines [] [] b c (h, e) (k, f) = (refl, e ∙ sym f)
 one_run around p lines [] (y ∷ ys) b c (h, e) (k, f) = absurd (none-some y (sym h ∙ k))
 one_run around p lines (x ∷ xs) [] b c (h, e) (k, f) = absurd (none-some x (sym k ∙ h))
-one_run around p lines (x ∷ xs) (y ∷ ys) b c (h, inl (stops, m, e)) (k, inl (stops', m', f)) =
-    let s : x ≡ y = same_Some x y (sym h ∙ k) in
-    (λ i. s i ∷ (m ∙ sym m') i, e ∙ ap (λ (z : LinkEntry). Ended p (lines_beyond z.«end» lines)) s ∙ sym f)
+one_run around p lines (x ∷ xs) (y ∷ ys) b c (h, inl (stops, m, e)) (k, inl (stops', m', f)) = grind (arith, same_Some)
 one_run around p lines (x ∷ xs) (y ∷ ys) b c (h, inl (stops, m, e)) (k, inr (line, left, is, on, more)) = grind (arith, same_Some, ends_not)
 one_run around p lines (x ∷ xs) (y ∷ ys) b c (h, inr (line, left, is, on, more)) (k, inl (stops, m, e)) = grind (arith, same_Some, ends_not)
 one_run around p lines (x ∷ xs) (y ∷ ys) b c (h, inr (line, left, is, on, more)) (k, inr (line', left', is', on', more')) =
@@ -79,23 +73,17 @@ one_run around p lines (x ∷ xs) (y ∷ ys) b c (h, inr (line, left, is, on, mo
     let both : line ∷ left ≡ line' ∷ left' = sym is ∙ ap (λ (z : LinkEntry). lines_beyond z.«end» lines) s ∙ is' in
     let first : line ≡ line' = cc in
     let later : left ≡ left' = cc in
-    let r = one_run around (unindented (at_rest line (front around.path line.rest))) left xs ys b c more (rw (first, later) more') in
-    (λ i. s i ∷ r.0 i, r.1)
+    grind (arith, one_run around (unindented (at_rest line (front around.path line.rest))) left xs ys b c more (rw (first, later) more'))
 
 -- what follows a run reads alike
 one_beyond : (d : Document) (n : Names) (path : List Container) (xs : List LinkEntry) (b : Beyond) (o o' : Opening)
     → OpensBeyond d path xs b o → OpensBeyond (with_names d n) path xs b o' → AlikeOpening d.names n o o'
-one_beyond d n path xs (Ended p left) o o' e f = rw (e, f) ((refl, refl, refl, refl), refl, tt, refl)
-one_beyond d n path xs (FlowsOn p lines) o o' (t, is, e) (u, is', f) =
-    let same = one_text d n path p None lines t u tt is is' in
-    rw (e, f) ((refl, same.0, refl, refl), refl, tt, same.1)
+one_beyond d n path xs b o o' e f = grind (arith, one_text)
 
 one_run_opening : (d : Document) (n : Names) (path : List Container) (p : Place) (lines : List Place) (o o' : Opening)
     → OpensRun d path p lines o → OpensRun (with_names d n) path p lines o' → AlikeOpening d.names n o o'
 unfolding OpensRun
-one_run_opening d n path p lines o o' (xs, b, run, e) (ys, c, run', f) =
-    let s = one_run (around d path) (unindented p) lines xs ys b c run run' in
-    one_beyond d n path xs b o o' e (rw (s.0, s.1) f)
+one_run_opening d n path p lines o o' h7 h8 = grind (arith, one_run, one_beyond)
 
 -- the block of one kind at a place reads alike
 opens_once : (d : Document) (n : Names) (path : List Container) (p : Place) (lines : List Place) (k : Kind) (o o' : Opening)
@@ -117,16 +105,13 @@ opens_once d n path p lines HtmlToEnd o o' (until, is, (xs, h, e)) (until', is',
     OpensExtent HtmlToEnd p y (IsHtml (with_names d n) (offset (unindented p)) (indent p.rest) y.places y.«end») o') same f in
     rw (e, g) ((refl, one_html d n _ _ _ _ xs ys h k, refl, refl), refl, tt, refl)
 opens_once d n path p lines HtmlToBlank o o' (xs, h, e) (ys, k, f) = rw (e, f) ((refl, one_html d n _ _ _ _ xs ys h k, refl, refl), refl, tt, refl)
-opens_once d n path p lines (ThematicBreak size) o o' e f =
-    let start : ℕ = offset (unindented p) in
-    rw (e, f) ((refl, block_alike d.names n start (start + size) Rule Rule [] [] refl refl, refl, refl), refl, tt, refl)
+opens_once d n path p lines (ThematicBreak size) o o' e f = grind (arith, block_alike)
 opens_once d n path p lines (AtxHeading level) o o' (i, c, e, h, f) (i', c', e', h', f') =
     let text : ℕ = heading_text_at d.text (offset (unindented p)) (level_number level) in
     let s = one_heading d n text i i' c c' e e' h h' in
     let start : ℕ = offset (unindented p) in
     let own = heading_alike d.names n start e level i i' (heading_attributes_of d.options (line_bytes d text)) h.named h'.named in
-    let items = block_alike d.names n start e (HeadingBody level i) (HeadingBody level i') c c' own s.0 in
-    rw (f, f', ← s.1) ((refl, items, refl, refl), refl, tt, refl)
+    grind (arith, block_alike d.names n start e (HeadingBody level i) (HeadingBody level i') c c' own s.0)
 opens_once d n path p lines (FencedCode count byte) o o' (xs, h, e) (ys, k, f) =
     let own = fence_alike d.names n _ _ h.info k.info _ (h.names.named, h.names.at, h.names.text) (k.names.named, k.names.at, k.names.text) in
     let same = raw_block range_text text_is_free d n _ h.chain k.chain h.lines k.lines _ _ (FencedCodeBlock h.info) (FencedCodeBlock k.info) xs ys own
@@ -137,8 +122,7 @@ opens_once d n path p lines Paragraph o o' e f = one_text_opening d n path p lin
 
 opens_block : (d : Document) (n : Names) (path : List Container) (p : Place) (lines : List Place) (o o' : Opening)
     → OpensBlockAt d path p lines o → OpensBlockAt (with_names d n) path p lines o' → AlikeOpening d.names n o o'
-opens_block d n path p lines o o' (k, is, e) (k', is', f) =
-    opens_once d n path p lines (kind_in (around d path) p k) o o' e (rw (one_kind p.rest (first_kind d.options p.rest) k k' is is') f)
+opens_block d n path p lines o o' h7 h8 = grind (arith, opens_once, one_kind)
 
 -- a container without a label that opens reads alike; the marker where its blocks continue, if there is one, has no
 -- index
@@ -146,15 +130,13 @@ abbrev IsUnlabelled : Head → Type 0
 IsUnlabelled head = label_node head.opener ≡ []
 
 unlabelled : (o : Opener) → label_of o ≡ [] → label_node o ≡ []
-unlabelled (FootnoteMarker columns index label) h = cc
-unlabelled o h = refl
+unlabelled o h = grind arith
 
 containers_free : HoldsOfContainers Anywhere IsWithoutIndex IsUnlabelled
 containers_free = record { kept = anywhere_kept; task = λ checked. refl; plain = λ head none. unlabelled head.opener none }
 
 node_alike : (m n : Names) (o : Opening) → OpensContainer Anywhere IsWithoutIndex IsUnlabelled o → AlikeOpening m n o o
-node_alike m n (OpensLeaf leaf there left) h = absurd h
-node_alike m n (OpensNode head inside following) h = ((refl, rw h.0 refl), refl, h.1, refl)
+node_alike m n o h = grind arith
 
 opens_by : (d : Document) (n : Names) (path : List Container) (p : Place) (lines : List Place) (q : Option Start) (o o' : Opening)
     → ((s : Start) → q ≡ Some s → OpensContainer Anywhere IsWithoutIndex IsUnlabelled (opening_of d path p lines s)) → OpensBy d path p lines q o
@@ -187,13 +169,7 @@ opens_at d n l (AtPlace q Anything) p lines o o' h e f = one_opening d n l p lin
 opens_at d n l (AtPlace q OnlyALeaf) p lines o o' h e f = opens_block d n l.path p lines o o' e f
 opens_at d n l (Blanks x) p lines o o' h e f = one_opening d n l p lines o o' e f
 opens_at d n l (AtPlace q (TextOf marker)) p lines o o' h e f = one_text_opening d n l.path p lines (Some marker) o o' h.1 e f
-opens_at d n l (AtPlace q (OnlyMark marker blanks)) p lines o o' h e f =
-    rw (e, f) (
-      (refl, ap (λ (z : List (Item × Option Named)). map (λ (r : Item × Option Named). (0, r)) z) (only_read d.names n (marker ∷ []) (h.1, tt)), refl, refl),
-      refl,
-      tt,
-      refl,
-    )
+opens_at d n l (AtPlace q (OnlyMark marker blanks)) p lines o o' h e f = grind (arith, only_read)
 
 -- a block begins at one place
 begins_once : (p q : Place) (a b : List Place) (g : NextBlock) → g ≡ Begins p a → g ≡ Begins q b → (p ≡ q) × (a ≡ b)
@@ -202,9 +178,7 @@ begins_once p q a b g e f = let s : Begins p a ≡ Begins q b = sym e ∙ f in (
 -- a first block opens in one way; none begins where a sequence ends
 first_once : (d : Document) (n : Names) (l : Level) (from : Continues) (lines : List Place) (o o' : Opening) → HoldsNoIndex from
     → IsFirst d l from lines o → IsFirst (with_names d n) l from lines o' → AlikeOpening d.names n o o'
-first_once d n l from lines o o' h f g =
-    let w = begins_once f.place g.place f.following g.following (next_block d.options l from lines) f.begins g.begins in
-    opens_at d n l from g.place g.following o o' h (rw (← w.0, ← w.1) f.opens) g.opens
+first_once d n l from lines o o' h f g = grind (arith, begins_once, opens_at)
 
 first_ends : (d : Document) (l : Level) (from : Continues) (lines : List Place) (left : Remaining) (o : Opening) → next_block d.options l from lines ≡ Ends left
     → IsFirst d l from lines o → ⊥
@@ -219,13 +193,10 @@ ends_at_once d (Then leaf next) l from lines stop left e (there, mid, first, seq
 ends_at_once d (Node head e' kids next) l from lines stop left e (inside, following, mid, first, inner, is, seq) = grind (arith, first_ends)
 
 onward_free : (left : Remaining) → HoldsNoIndex (onward left).0
-onward_free (Lines lines) = tt
-onward_free (InLine p lines) = (tt, tt)
+onward_free left = grind arith
 
 leaf_after : (m n : Names) (l : Level) (leaf leaf' : Leaf) → AlikeLeaf m n leaf leaf' → level_after_leaf l leaf ≡ level_after_leaf l leaf'
-leaf_after m n l BlankLine BlankLine a = refl
-leaf_after m n l (Block b) (Block b') a = ap (level l.path) (after_alike m n l.before b b' a)
-leaf_after m n l leaf leaf' a = absurd a
+leaf_after m n l leaf leaf' a = grind (arith, after_alike)
 
 -- two sequences from the same place on are alike, and leave the same lines
 pub one_sequence : (d : Document) (n : Names) (s t : Skeleton) (l : Level) (from : Continues) (lines : List Place) (a b : Remaining) → HoldsNoIndex from
@@ -262,9 +233,7 @@ one_forest text options m n f g t u x y =
     let d : Document = document text options m in
     let s = (one_sequence d n x.skeleton y.skeleton (level [] nothing) Line (lines_at 0 text) (Lines []) (Lines []) tt x.sequence y.sequence).0 in
     let root : ℕ × (Item × Option Named) = (0, (node_of 0 (length text) Root, None)) in (
-      ap (read_nodes m) x.forest_is
-          ∙ ap (λ z. root ∷ z) (forest_alike m n false nothing 1 (length text) x.skeleton y.skeleton s)
-          ∙ sym (ap (read_nodes n) y.forest_is),
+      grind (arith, forest_alike),
       x.tables_are ∙ told_alike m n no_tables x.skeleton y.skeleton s ∙ sym y.tables_are,
     )
 

@@ -10,8 +10,7 @@ use Rattle.first_pass_grammar.proofs.WholeTables.HeadCells.{head_has_cells}
 -- the columns of a table whose header row is the first line of a text
 table_columns : (columns : ℕ) (o : Option (List Alignment)) (alignments : List Alignment) → option_and_then (if_as_many columns) o ≡ Some alignments
     → length alignments ≡ columns
-table_columns columns None alignments e = absurd (none-some alignments e)
-table_columns columns (Some xs) alignments e = grind (arith, cond_some)
+table_columns columns o alignments e = grind (arith, none-some, cond_some)
 
 headed_by : (t s : Bool) (o : Option (List Alignment)) (alignments : List Alignment) → (if t && s then o else None) ≡ Some alignments
     → (t ≡ true) × (o ≡ Some alignments)

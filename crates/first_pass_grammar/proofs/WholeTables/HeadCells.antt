@@ -1,8 +1,8 @@
 -- A header row has at least as many cells as its table has columns: each pipe without a backslash directly before it
 -- ends a cell, except a pipe at the start of the line.
-use Rattle.std.proofs.Common.{◌≡◌, inl, inr, ℕ, zero, suc, ◌+◌, ◌-◌, ◌<◌, ◌≤◌, ◌==◌, ◌&&◌, not, Bool, true, false, List, [], ◌∷◌, length, take, drop}
-use Rattle.std.proofs.Common.{slice_index, Option, Some, None, is_some, refl, sym, ap, subst, ◌∙◌, arith, add-one, drop-drop, if◌then◌else◌, option_map}
-use Rattle.std.proofs.Common.{take_while, eqb-true, true≢false}
+use Rattle.std.proofs.Common.{◌≡◌, inl, inr, ℕ, zero, suc, ◌+◌, ◌-◌, ◌<◌, ◌≤◌, ◌==◌, ◌&&◌, not, Bool, true, false, List, ◌∷◌, length, take, drop, slice_index}
+use Rattle.std.proofs.Common.{Option, Some, None, is_some, refl, sym, ap, subst, ◌∙◌, arith, add-one, drop-drop, if◌then◌else◌, option_map, take_while}
+use Rattle.std.proofs.Common.{true≢false, []}
 use Rattle.first_pass_grammar.proofs.Common.{option_map_or, prefix_len, cases_lt, nat_tests, at_drop_all, at_drop_more, get_or_past, none-some, same_Some}
 use Rattle.first_pass_grammar.proofs.Common.{line_feed, carriage_return, backslash, pipe, has, tables, Item, is_content, is_white, begins, eol_len}
 use Rattle.first_pass_grammar.proofs.Common.{is_blank_line, head_columns, MathBraces, Spot, spot, IsCell, Document, cell_content, cell_start, cell_text}
@@ -52,8 +52,7 @@ white_other c w = grind (arith, nat_tests, w)
 cells_white_by : (t : Bool) (b c : ℕ) (cs : List ℕ) → is_white c ≡ t → cells_of c cs ≤ cells_of 0 (drop (prefix_len is_white cs) cs)
     → cells_of b (c ∷ cs) ≤ cells_of 0 (drop (prefix_len is_white (c ∷ cs)) (c ∷ cs))
 unfolding cells_of
-cells_white_by true b c cs h more = rw (h, white_other c h) (grind arith)
-cells_white_by false b c cs h more = rw h (grind arith)
+cells_white_by t b c cs h more = grind (arith, white_other)
 
 cells_white : (b : ℕ) (bs : List ℕ) → cells_of b bs ≤ cells_of 0 (drop (prefix_len is_white bs) bs)
 unfolding cells_of
@@ -67,8 +66,7 @@ no_content c cs n e = grind (arith, nat_tests, e)
 -- there are no cells if the line ends
 cells_end : (b : ℕ) (bs : List ℕ) (n : ℕ) → eol_len bs ≡ Some n → cells_of b bs ≡ 0
 unfolding cells_of
-cells_end b [] n e = refl
-cells_end b (c ∷ cs) n e = rw (no_content c cs n e)
+cells_end b bs n e = grind (arith, no_content)
 
 -- after a pipe, or where there is none
 first_by : (text : List ℕ) (at : ℕ) (t : Bool) → (slice_index text at == pipe) ≡ t
@@ -77,20 +75,12 @@ unfolding cells_of
 first_by text at true here =
     let c = slice_index text at in
     let cs = drop (at + 1) text in
-    let read = at_drop_more (cells_of 0) text at 0 (pipe_inside text at here) in
-    let most = step_most (is_content c) (is_pipe c && not (0 == backslash)) (is_white c) (cells_of c cs) in
-    let low = cells_unescaped c cs in
-    rw here (omega arith)
+    let read = at_drop_more (cells_of 0) text at 0 (pipe_inside text at here) in grind (arith, step_most, cells_unescaped)
 first_by text at false here = rw here (omega arith)
 
 -- up to the content of the cell there
 to_text : (text : List ℕ) (at : ℕ) → cells_of 0 (drop at text) ≤ (if slice_index text at == pipe then 1 else 0) + cells_of 0 (drop (cell_text text at) text)
-to_text text at =
-    let first = first_by text at (slice_index text at == pipe) refl in
-    let start : ℕ = cell_start text at in
-    let white = cells_white 0 (drop start text) in
-    let same = ap (λ (bs : List ℕ). cells_of 0 bs) (drop-drop (prefix_len is_white (drop start text)) start text) in
-    omega arith
+to_text text at = grind (arith, first_by, cells_white, drop-drop)
 
 -- the content of a cell adds one
 escaped_pipe : (b c : ℕ) → (c ≡ pipe → b ≡ backslash) → (is_pipe c && not (b == backslash)) ≡ false
@@ -112,9 +102,7 @@ through text (suc n) at b stop same here escaped =
           let back : at + 1 - 1 ≡ at = omega arith in
           let rest = through text n (at + 1) c stop (omega arith)
           (λ low stands. sym (ap (slice_index text) back) ∙ escaped (at + 1) (omega arith) low stands)
-          (λ k low high stands. escaped k (omega arith) high stands) in
-          let most = step_other (is_content c) (is_white c) (cells_of c cs) (cells_of 0 (drop stop text) - 1) rest in
-          omega arith
+          (λ k low high stands. escaped k (omega arith) high stands) in grind (arith, step_other)
       | inr past ↦ let none = at_drop_all (cells_of b) text at past in omega arith
     ]
 
@@ -143,13 +131,10 @@ cells_least d p (cell ∷ cells) to on (line, tokens, stop, is, same, more) =
 
 -- there is one cell if anything precedes the line ending
 end_blank : (b : ℕ) (bs : List ℕ) (t u : Bool) → (b == line_feed) ≡ t → (b == carriage_return) ≡ u → is_content b ≡ false → is_blank_line (b ∷ bs) ≡ true
-end_blank b bs true u h k is = ap (λ (x : ℕ). is_blank_line (x ∷ bs)) (eqb-true b line_feed h)
-end_blank b bs false true h k is = ap (λ (x : ℕ). is_blank_line (x ∷ bs)) (eqb-true b carriage_return k)
-end_blank b bs false false h k is = absurd (true≢false (sym (rw (h, k) refl) ∙ is))
+end_blank b bs t u h k is = grind (arith, true≢false)
 
 some_mapped : {A B : Type 0} (f : A → B) (o : Option A) → is_some (option_map f o) ≡ is_some o
-some_mapped f None = refl
-some_mapped f (Some x) = refl
+some_mapped f o = grind arith
 
 white_blank : (b : ℕ) (bs : List ℕ) → is_white b ≡ true → is_blank_line (b ∷ bs) ≡ is_blank_line bs
 white_blank b bs h = grind (arith, drop_next, some_mapped)
@@ -160,17 +145,14 @@ step_some u m = grind arith
 some_by : (t w : Bool) (b c : ℕ) (cs : List ℕ) → is_content c ≡ t → is_white c ≡ w → is_blank_line (c ∷ cs) ≡ false
     → (is_blank_line cs ≡ false → 1 ≤ cells_of c cs) → 1 ≤ cells_of b (c ∷ cs)
 unfolding cells_of
-some_by false w b c cs h k blank more = absurd (true≢false (sym (end_blank c cs (c == line_feed) (c == carriage_return) refl refl h) ∙ blank))
-some_by true true b c cs h k blank more = grind (arith, white_blank, step_least)
-some_by true false b c cs h k blank more = grind (arith, step_some)
+some_by t w b c cs h k blank more = grind (arith, true≢false, end_blank, white_blank, step_least, step_some)
 
 some_left : (b : ℕ) (bs : List ℕ) → is_blank_line bs ≡ false → 1 ≤ cells_of b bs
 some_left b [] blank = absurd (true≢false blank)
 some_left b (c ∷ cs) blank = some_by (is_content c) (is_white c) b c cs refl refl blank (some_left c cs)
 
 tail_by : (t : Bool) (bs : List ℕ) (b : ℕ) → is_blank_line bs ≡ t → (if is_blank_line bs then 0 else 1) ≤ cells_of b bs
-tail_by true bs b h = rw h (omega arith)
-tail_by false bs b h = (let some = some_left b bs h in rw h some)
+tail_by t bs b h = grind (arith, some_left)
 
 -- up to the last pipe there is one cell for each pipe, and one more if anything follows the last pipe
 abbrev UpTo : ℕ → List ℕ → ℕ → Type 0
@@ -208,14 +190,11 @@ less_first pipes tail most t h = grind arith
 
 leads_by : (t : Bool) (c : ℕ) (cs : List ℕ) (last n : ℕ) → is_pipe c ≡ t → UpTo 0 (c ∷ cs) last → cells_of 0 (c ∷ cs) ≤ (if t then 1 else 0) + n
     → header_columns (c ∷ cs) last ≤ n
-leads_by true c cs last n p up most = grind (arith, take_next)
-leads_by false c cs last n p up most = grind (arith, less_first)
+leads_by t c cs last n p up most = grind (arith, take_next, less_first)
 
 columns_by : (bs : List ℕ) (o : Option ℕ) (n : ℕ) → last_pipe_after 0 (take_while is_content bs) ≡ o → cells_of 0 bs ≤ (if begins pipe bs then 1 else 0) + n
     → option_map_or (header_columns bs) o 0 ≤ n
-columns_by bs None n e most = omega arith
-columns_by [] (Some last) n e most = absurd (none-some last e)
-columns_by (c ∷ cs) (Some last) n e most = leads_by (is_pipe c) c cs last n refl (up_to_last 0 (c ∷ cs) last e) most
+columns_by bs o n e most = grind (arith, none-some, leads_by, up_to_last)
 
 columns_most : (bs : List ℕ) (n : ℕ) → cells_of 0 bs ≤ (if begins pipe bs then 1 else 0) + n → head_columns bs ≤ n
 unfolding head_columns

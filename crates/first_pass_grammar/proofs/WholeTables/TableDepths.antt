@@ -1,5 +1,5 @@
 -- Rows are one deeper than their table.
-use Rattle.std.proofs.Common.{◌≡◌, ℕ, suc, ◌++◌, List, [], ◌∷◌, arith}
+use Rattle.std.proofs.Common.{◌≡◌, ℕ, suc, ◌++◌, List, ◌∷◌, arith, []}
 use Rattle.first_pass_grammar.proofs.Common.{AlignmentIndex, Item, Table, TableHead, Names, Mark, ATable, ARow, marks, RowCells, row_marks, TableRows}
 use Rattle.first_pass_grammar.proofs.Common.{table_marks, AreWholeTables}
 

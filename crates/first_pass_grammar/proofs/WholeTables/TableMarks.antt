@@ -1,13 +1,13 @@
 -- The marks of a table's nodes: each row has as many cells as there are columns, and the number of inserted cells is
 -- limited.
-use Rattle.std.proofs.Common.{◌≡◌, inl, inr, ℕ, zero, suc, ◌+◌, ◌-◌, ◌<◌, ◌≤◌, nat_lt, nat_le, true, false, List, ◌∷◌, ◌++◌, length, map, take, []}
-use Rattle.std.proofs.Common.{drop, replicate, refl, sym, ap, ◌∙◌, arith, eq-eqb, leb-true, true≢false, append_assoc, append-nil, ◌||◌}
+use Rattle.std.proofs.Common.{◌≡◌, inl, inr, ℕ, zero, suc, ◌+◌, ◌-◌, ◌<◌, ◌≤◌, nat_lt, nat_le, true, false, List, ◌∷◌, ◌++◌, length, map, take, drop, replicate}
+use Rattle.std.proofs.Common.{refl, sym, ap, ◌∙◌, arith, eq-eqb, leb-true, true≢false, append_assoc, append-nil, ◌||◌, []}
 use Rattle.first_pass_grammar.proofs.Common.{cases_lt, and_parts, false≢true, map-append, at_drop_all, Alignment, Item, ItemBody, Table, TableHead, TableRow}
-use Rattle.first_pass_grammar.proofs.Common.{TableCell, at_depth, at_line_end, Place, offset, start_of, line_len-within, MathBraces, no_braces, Spot, spot}
-use Rattle.first_pass_grammar.proofs.Common.{IsCell, leaves, cell_ends, Names, Document, cell_content, cell_start, cell_text, cell_block, AreCells, inserted}
-use Rattle.first_pass_grammar.proofs.Common.{side_by_side, row_cells, row_block, Taken, TableSoFar, table_so_far, AreRows, most_inserted, IsTable, Mark}
-use Rattle.first_pass_grammar.proofs.Common.{ATable, ARow, ACell, shown, marks, RowCells, row_marks, TableRows, table_marks, HaveCells, AreFull}
-use Rattle.first_pass_grammar.proofs.Common.{AreWholeTables, ShowsNothing, AreEachNode, AllZip, is_markup, CowStr, or_right}
+use Rattle.first_pass_grammar.proofs.Common.{at_depth, at_line_end, Place, offset, start_of, line_len-within, MathBraces, no_braces, Spot, spot, IsCell, leaves}
+use Rattle.first_pass_grammar.proofs.Common.{cell_ends, Names, Document, cell_content, cell_start, cell_text, cell_block, AreCells, inserted, side_by_side}
+use Rattle.first_pass_grammar.proofs.Common.{row_cells, row_block, Taken, TableSoFar, table_so_far, AreRows, most_inserted, IsTable, Mark, ATable, ARow, ACell}
+use Rattle.first_pass_grammar.proofs.Common.{shown, marks, RowCells, row_marks, TableRows, table_marks, HaveCells, AreFull, AreWholeTables, ShowsNothing}
+use Rattle.first_pass_grammar.proofs.Common.{AreEachNode, AllZip, is_markup, CowStr, or_right}
 use Rattle.first_pass_grammar.specs.declared.kind.Container.{Container}
 use Rattle.first_pass_grammar.specs.WholeTables.{how_often, inserted_in, StartApart}
 use Rattle.first_pass_grammar.proofs.Count.RowsWithRoom.{with_row, RowsWithRoom, counted}
@@ -33,20 +33,13 @@ mark_deeper d (ACell depth start) = ACell (d + depth) start
 
 shown_deeper : (names : Names) (d depth start «end» : ℕ) (b : ItemBody)
     → shown names (d + depth) start «end» b ≡ map (mark_deeper d) (shown names depth start «end» b)
-shown_deeper names d depth start end (Table ix) = refl
-shown_deeper names d depth start end TableHead = refl
-shown_deeper names d depth start end TableRow = refl
-shown_deeper names d depth start end TableCell = refl
-shown_deeper names d depth start end b = refl
+shown_deeper names d depth start «end» b = grind arith
 
 -- the marks of nodes at another depth
 pub marks-at_depth : (names : Names) (d : ℕ) (nodes : List (ℕ × Item)) → marks names (at_depth d nodes) ≡ map (mark_deeper d) (marks names nodes)
 unfolding marks
 marks-at_depth names d [] = refl
-marks-at_depth names d (n ∷ nodes) =
-    let own = shown_deeper names d n.0 n.1.start n.1.«end» n.1.body in
-    let more = marks-at_depth names d nodes in
-    (λ i. own i ++ more i) ∙ sym (map-append (mark_deeper d) (shown names n.0 n.1.start n.1.«end» n.1.body) (marks names nodes))
+marks-at_depth names d (n ∷ nodes) = grind (arith, shown_deeper, map-append, marks-at_depth names d nodes)
 
 -- cells, rows and tables, this much deeper
 cells_deeper : (d depth : ℕ) (starts : List ℕ) → map (mark_deeper d) (map (ACell depth) starts) ≡ map (ACell (d + depth)) starts
@@ -58,10 +51,7 @@ unfolding row_marks
 rows_deeper d depth [] = refl
 rows_deeper d depth (row ∷ rows) =
     let one : d + suc depth ≡ suc (d + depth) = omega arith in
-    let cells = cells_deeper d (suc depth) row.starts ∙ ap (λ k. map (ACell k) row.starts) one in
-    let more = rows_deeper d depth rows in
-    map-append (mark_deeper d) (ARow depth row.«end» ∷ map (ACell (suc depth)) row.starts) (row_marks depth rows)
-    ∙ (λ i. (ARow (d + depth) row.«end» ∷ cells i) ++ more i)
+    let cells = cells_deeper d (suc depth) row.starts ∙ ap (λ k. map (ACell k) row.starts) one in grind (arith, map-append, rows_deeper d depth rows)
 
 abbrev pub table_deeper : ℕ → TableRows → TableRows
 table_deeper d table = record { depth = d + table.depth; columns = table.columns; rows = table.rows }
@@ -70,11 +60,7 @@ tables_deeper : (d : ℕ) (tables : List TableRows) → map (mark_deeper d) (tab
 unfolding table_marks
 tables_deeper d [] = refl
 tables_deeper d (table ∷ tables) =
-    let one : d + suc table.depth ≡ suc (d + table.depth) = omega arith in
-    let own = rows_deeper d (suc table.depth) table.rows ∙ ap (λ k. row_marks k table.rows) one in
-    let more = tables_deeper d tables in
-    map-append (mark_deeper d) (ATable table.depth table.columns ∷ row_marks (suc table.depth) table.rows) (table_marks tables)
-    ∙ (λ i. (ATable (d + table.depth) table.columns ∷ own i) ++ more i)
+    let one : d + suc table.depth ≡ suc (d + table.depth) = omega arith in grind (arith, rows_deeper, map-append, tables_deeper d tables)
 
 full_deeper : (d : ℕ) (tables : List TableRows) → AreFull tables → AreFull (map (table_deeper d) tables)
 unfolding AreFull
@@ -91,11 +77,7 @@ whole_deeper names d nodes (tables, is, full) = (
 
 -- only a table has parts of a table
 pub body_shows : (body : ItemBody) → (is_first body || is_later body) ≡ true → ShowsNothing body
-body_shows (Table index) h = absurd (false≢true h)
-body_shows TableHead h = absurd (false≢true h)
-body_shows TableRow h = absurd (false≢true h)
-body_shows TableCell h = absurd (false≢true h)
-body_shows _ h = λ names depth start end. refl
+body_shows body h = grind (arith, false≢true)
 
 markup_shows : (texts : List CowStr) (body : ItemBody) → is_markup body ≡ true → NamesWithin texts body → ShowsNothing body
 markup_shows texts body h k = body_shows body (or_right (is_first body) (is_later body) (or_right (is_line_part body) (is_markup body) h))
@@ -116,9 +98,7 @@ side_shows : (names : Names) (blocks : List (List (ℕ × Item))) (starts : List
     → (marks names (side_by_side blocks) ≡ map (ACell 0) starts) × (length starts ≡ length blocks)
 unfolding marks
 side_shows names [] [] h = (refl, refl)
-side_shows names (block ∷ blocks) (start ∷ starts) h =
-    let rest = side_shows names blocks starts h.1 in
-    (marks-append names block (side_by_side blocks) ∙ (λ i. h.0 i ++ rest.0 i), ap suc rest.1)
+side_shows names (block ∷ blocks) (start ∷ starts) h = grind (arith, marks-append, side_shows names blocks starts h.1)
 side_shows names blocks starts h = absurd h
 
 -- these offsets are in ascending order, from one offset on and before another
@@ -177,17 +157,7 @@ written_before : (d : Document) (p : Spot) (tokens : List Item) (stop : Spot) (c
 written_before d p tokens stop cells to on cell more =
     elim (cases_lt (cell_text d.text p.at) (length d.text)) [
       | inl inside ↦
-          let ends = cell_ends (omega arith) cell in
-          let from : cell_text d.text p.at ≤ stop.at = ends.from in
-          let within : stop.at ≤ length d.text = ends.within in
-          let line = row_ends_its_line d stop cells to within more in (
-            elim (cases_lt stop.at (length d.text)) [
-              | inl short ↦ (let some = (line_len-within d.text stop.at short).0 in omega arith)
-              | inr all ↦ omega arith
-            ],
-            within,
-            from,
-          )
+          grind (arith, cell_ends (omega arith) cell, row_ends_its_line d stop cells to ((cell_ends (omega arith) cell).within) more, cases_lt, line_len-within)
       | inr past ↦ absurd (true≢false (sym (at_drop_all (λ (bs : List ℕ). at_line_end bs) d.text (cell_text d.text p.at) past) ∙ on))
     ]
 

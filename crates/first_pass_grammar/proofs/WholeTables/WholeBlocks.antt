@@ -1,5 +1,5 @@
 -- Each block of a derived tree has whole tables, or no part of a table.
-use Rattle.std.proofs.Common.{◌≡◌, ℕ, ◌≤◌, List, [], ◌∷◌, ◌++◌, length, Option, Some, IfSome, refl, ap}
+use Rattle.std.proofs.Common.{◌≡◌, ℕ, ◌≤◌, List, ◌∷◌, ◌++◌, length, Option, Some, IfSome, refl, ap, []}
 use Rattle.first_pass_grammar.proofs.Common.{or_left, or_right, Alignment, Item, block_of, Place, Skeleton, Kind, Document, around, Names, Continues, Opening}
 use Rattle.first_pass_grammar.proofs.Common.{OpensAs, Level, Remaining, IsSequence, headed_table, inserted, Taken, most_inserted, IsTable, IsText, Mark}
 use Rattle.first_pass_grammar.proofs.Common.{marks, table_marks, AreFull, AreWholeTables, ShowsNothing}

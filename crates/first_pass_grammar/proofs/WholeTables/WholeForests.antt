@@ -1,9 +1,9 @@
 -- The tables of a derived tree are whole.
-use Rattle.std.proofs.Common.{◌≡◌, ℕ, suc, ◌==◌, Bool, true, false, List, [], ◌∷◌, ◌++◌, length, map, refl, sym, ap, subst, ◌∙◌, append_assoc}
+use Rattle.std.proofs.Common.{◌≡◌, ℕ, suc, Bool, true, false, List, ◌∷◌, ◌++◌, length, map, refl, sym, ap, subst, ◌∙◌, append_assoc, [], arith}
 use Rattle.first_pass_grammar.proofs.Common.{cond_both, Item, ItemBody, DefinitionListTitle, at_depth, tight_body, tightened, lines_at, Names, Document, Line}
 use Rattle.first_pass_grammar.proofs.Common.{level, Lines, nothing, is_paragraph_body, begins_paragraph, What, ALeaf, Rows, End, OneOf, is_loose, ATitle}
-use Rattle.first_pass_grammar.proofs.Common.{rows_of, as_title, row_items, tight_in, items_of, Tables, root_of, Derives, Mark, shown, marks, TableRows}
-use Rattle.first_pass_grammar.proofs.Common.{table_marks, AreFull, AreWholeTables}
+use Rattle.first_pass_grammar.proofs.Common.{rows_of, as_title, row_items, tight_in, items_of, Tables, root_of, Derives, shown, marks, TableRows, table_marks}
+use Rattle.first_pass_grammar.proofs.Common.{AreFull, AreWholeTables}
 use Rattle.first_pass_items.specs.declared.item.ItemBody.TheVariants.{Paragraph as ParagraphBody}
 use Rattle.first_pass_grammar.proofs.Each.EachRow.{HoldsOfRow, HoldsOfEachRow, each_row}
 use Rattle.first_pass_grammar.proofs.WholeTables.FullHeads.{heads_are_full}
@@ -40,12 +40,7 @@ tight_shows names depth start end b = refl
 pub marks-tightened : (names : Names) (depth : ℕ) (nodes : List (ℕ × Item)) → marks names (map (tightened depth) nodes) ≡ marks names nodes
 unfolding marks
 marks-tightened names depth [] = refl
-marks-tightened names depth (n ∷ nodes) =
-    let shows : Item → List Mark = λ x. shown names n.0 x.start x.«end» x.body in
-    let own : shows (tightened depth n).1 ≡ shows n.1 = cond_both (n.0 == depth) _ _ (λ (x : Item). shows x ≡ shows n.1)
-    (λ b. tight_shows names n.0 n.1.start n.1.«end» n.1.body) (λ b. refl) in
-    let more = marks-tightened names depth nodes in
-    λ i. own i ++ more i
+marks-tightened names depth (n ∷ nodes) = grind (arith, cond_both, tight_shows, marks-tightened names depth nodes)
 
 -- the leaf blocks of rows have whole tables, or no part of a table
 abbrev pub WholeRows : Names → Rows → Type 0

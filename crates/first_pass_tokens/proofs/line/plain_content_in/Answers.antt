@@ -1,8 +1,8 @@
-use Rattle.std.proofs.Common.{◌≡◌, ◌≤◌, ℕ, List, Bool, inl, inr, sym, ap, ◌∙◌, arith, true≢false}
+use Rattle.std.proofs.Common.{◌≤◌, ℕ, List, Bool, inl, sym, ◌∙◌, arith, true≢false}
 use Rattle.std.proofs.lemmas.Bool.{cases_lt}
 use Rattle.first_pass_walk.specs.Walk.{IsNextMarked}
 use Rattle.first_pass_tokens.specs.Pieces.{content_in}
-use Rattle.first_pass_tokens.specs.LineTokens.{blanks_at_end, content_ends_at}
+use Rattle.first_pass_tokens.specs.LineTokens.{blanks_at_end}
 use Rattle.first_pass_tokens.proofs.SoFar.{cell_plain}
 use Rattle.first_pass_walk.proofs.WalkFacts.{spares_words}
 use Rattle.first_pass_tokens.proofs.line.plain_content_in.Goals as goal
@@ -29,12 +29,7 @@ returns-then-special_ends_at-clause-some c b = grind arith
 
 -- no first marked byte is before another
 not_before : {lut : List Bool} {bytes : List ℕ} {ix i j : ℕ} → IsNextMarked lut bytes ix i → IsNextMarked lut bytes ix j → j ≤ i
-not_before {lut} {bytes} {ix} {i} {j} h k =
-    elim (cases_lt i j) [ inl less ↦ absurd (true≢false (sym h.marked ∙ k.least i h.from less)) | inr most ↦ most ]
+not_before {lut} {bytes} {ix} {i} {j} h k = grind (arith, cases_lt, true≢false)
 
 pub returns-clause-none : goal.returns-clause-none
-returns-clause-none c at b ends =
-    let found = c.in_ok-at.ensures.found in
-    let same : at ≡ c.in_ok-at.at = omega (arith, not_before ends.first found, not_before found ends.first) in
-    true≢false (sym ends.ended ∙ ap (content_ends_at (content_in c.args.text.now c.args.content b)) same ∙ sym (c.special_ends_at.ensures b)
-    ∙ c.if-special_ends_at.false)
+returns-clause-none c at b ends = grind (arith, not_before, true≢false)

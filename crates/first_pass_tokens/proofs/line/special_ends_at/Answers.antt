@@ -9,7 +9,7 @@ use Rattle.first_pass_lines.specs.Lines.{is_line_end}
 use Rattle.first_pass_walk.specs.Walk.{is_special, is_marked, MarksSpecial}
 use Rattle.first_pass_walk.proofs.WalkFacts.{low_special}
 use Rattle.first_pass_tokens.specs.Pieces.{Inline, content_in}
-use Rattle.first_pass_tokens.specs.LineTokens.{ends_cell, content_ends_at}
+use Rattle.first_pass_tokens.specs.LineTokens.{content_ends_at}
 use Rattle.first_pass_tokens.proofs.line.special_ends_at.Goals as goal
 
 only_first : (t a b c d : Bool) → ((t && true) || (((a && false) || (b && false)) || ((c && false) || (d && false)))) ≡ t
@@ -30,11 +30,7 @@ in_row r t p h = grind (arith, nat_tests, h)
 marked_ends : (s : Inline) (lut : List Bool) (at : ℕ) → MarksSpecial lut s.options → slice_index s.text at < 256 → is_marked lut s.text at ≡ true
     → at < length s.text → content_ends_at s at ≡ ((slice_index s.text at == pipe && s.row) || is_line_end (slice_index s.text at))
 unfolding content_ends_at
-marked_ends s lut at m small marked within =
-    let b : ℕ = slice_index s.text at in
-    ap (λ t. t || (is_line_end b || ends_cell s b)) (lt-leb (length s.text) at within)
-    ∙ ap (λ t. is_line_end b || t) (in_row s.row (has s.options tables) (b == pipe) (pipe_marked s.options lut b m small marked))
-    ∙ or_comm (is_line_end b) (b == pipe && s.row)
+marked_ends s lut at m small marked within = grind (arith, lt-leb, in_row, pipe_marked, or_comm)
 
 not_low : (b : ℕ) → 32 ≤ b → is_line_end b ≡ false
 not_low b high = grind (arith, nat_tests, high)
