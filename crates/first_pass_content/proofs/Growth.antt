@@ -1,5 +1,5 @@
 -- A content that is being read grows.
-use Rattle.std.proofs.Common.{◌≡◌, ℕ, ◌+◌, ◌-◌, ◌^◌, ◌<◌, ◌≤◌, min, List, [], ◌∷◌, ◌++◌, length, take, drop, sym, ap}
+use Rattle.std.proofs.Common.{◌≡◌, ℕ, suc, ◌+◌, ◌-◌, ◌^◌, ◌<◌, ◌≤◌, min, List, [], ◌∷◌, ◌++◌, length, take, drop, refl, sym, ap}
 use Rattle.std.proofs.Common.{subst, ◌∙◌, arith, append_assoc, append-nil}
 use Rattle.std.proofs.lemmas.List.{length-append, length-drop, length_push, nil_from_length, take_min}
 use Rattle.std.proofs.lemmas.List.Edits.{between_none}
@@ -10,7 +10,7 @@ use Rattle.first_pass_content.specs.Parts.{part}
 use Rattle.first_pass_content.specs.Runs.{AreAllRuns, AreRuns, Fits, content_in, empty_run, run_from, run_with}
 use Rattle.first_pass_content.specs.declared.run.Run.{Run}
 use Rattle.first_pass_content.proofs.Placed.{placed_both, slice_both}
-use Rattle.first_pass_content.proofs.RunLists.{content_more, run_is_placed, runs_more}
+use Rattle.first_pass_content.proofs.RunLists.{content_more, length_content, run_is_placed, runs_more}
 
 -- the content of runs that are all copied
 pub record IsClosed (bytes : List ℕ) (runs : List Run) (past : ℕ) (c : List ContentByte) : Type 0 where
@@ -131,3 +131,14 @@ module _ (text bytes : List ℕ) (runs : List Run) (last : Run) (start to e : �
       (placed_both last.start start (slice_range text last.start last.«end») (slice_range text start e) (omega (arith, is.order, at)))
       ∙ sym (append_assoc (content_in bytes runs) (placed last.start (slice_range text last.start last.«end»)) (placed start (slice_range text start e)))
       ∙ ap (λ l. content_with text bytes runs last ++ placed start l) (sym (slice_up_to text start to e up))
+
+-- the number of bytes so far
+pub built_size : (text bytes : List ℕ) (runs : List Run) (last : Run) → IsContentWith text bytes runs last → last.past ≡ length (content_with text bytes runs last)
+built_size text bytes runs last is =
+    let mine : List ℕ = slice_range text last.start last.«end» in
+    let before = length_content bytes 0 last.place runs is.before (omega (arith, is.place)) in
+    omega (arith, before, is.size, length-append (content_in bytes runs) (placed last.start mine), length_placed last.start mine)
+  where
+    length_placed : (at : ℕ) (bs : List ℕ) → length (placed at bs) ≡ length bs
+    length_placed at [] = refl
+    length_placed at (b ∷ bs) = ap suc (length_placed (at + 1) bs)

@@ -39,6 +39,13 @@ pub(crate) fn begin_content(alloc: Global) -> ContentBuilder
 }
 
 impl ContentBuilder {
+    // The number of bytes so far.
+    pub(crate) fn len(&self) -> usize
+        ensures { (text : List ℕ) → IsBuilt text self.now → result ≡ length (built text self.now) }
+    {
+        self.last.past
+    }
+
     // Adds the content of a token, and what is content between it and the next one.
     pub(crate) fn add_token(
         &mut self,
@@ -51,13 +58,22 @@ impl ContentBuilder {
         ensures value { OnOk result (built text.now self.new
             ≡ built text.now self.old ++ (token_content text.now token ++ gap_content text.now token following.now)) }
     {
-        self.add_part(text, part_of(text, token))?;
-        self.add_line_end(text, token)?;
+        self.add_own(text, token)?;
         self.add_gap(text, token, following)
     }
 
+    // Adds the content of a token.
+    pub(crate) fn add_own(&mut self, text: &[u8], token: Item) -> Result<(), AllocError>
+        requires { IsBuilt text.now self.old }
+        ensures sound { OnOk result (IsBuilt text.now self.new) }
+        ensures value { OnOk result (built text.now self.new ≡ built text.now self.old ++ token_content text.now token) }
+    {
+        self.add_part(text, part_of(text, token))?;
+        self.add_line_end(text, token)
+    }
+
     // Adds what is content between a token and the next one.
-    fn add_gap(
+    pub(crate) fn add_gap(
         &mut self,
         text: &[u8],
         token: Item,

@@ -6,3 +6,4 @@ pub mod content;
 pub mod laws;
 pub mod parts;
 mod run;
+pub mod tokens;

@@ -19,6 +19,7 @@
 //! error.
 #![tactic(auto)]
 
+mod atoms;
 mod attributes;
 mod call;
 mod containers;
@@ -31,6 +32,7 @@ mod markers;
 mod programs;
 mod rows;
 mod table;
+mod targets;
 mod texts;
 mod tokens;
 mod walks;

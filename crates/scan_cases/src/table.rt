@@ -1,5 +1,6 @@
 //! The table and its lines, in order.
 
+use crate::atoms::answer_atoms;
 use crate::attributes::answer_attributes;
 use crate::call::Call;
 use crate::containers::answer_containers;
@@ -11,6 +12,7 @@ use crate::links::answer_links;
 use crate::markers::answer_markers;
 use crate::programs::answer_programs;
 use crate::rows::answer_rows;
+use crate::targets::answer_targets;
 use crate::texts::answer_texts;
 use crate::tokens::answer_tokens;
 use crate::walks::{answer_flanks, answer_walks};
@@ -116,10 +118,12 @@ fn answer_call(call: &Call<'_>, answer: &mut Answer) -> Result<bool, AllocError>
             || answer_programs(call, answer)?
             || answer_html(call, answer)?
             || answer_links(call, answer)?
+            || answer_targets(call, answer)?
             || answer_attributes(call, answer)?
             || answer_containers(call, answer)?
             || answer_definitions(call, answer)?
             || answer_walks(call, answer)?
-            || answer_flanks(call, answer)?,
+            || answer_flanks(call, answer)?
+            || answer_atoms(call, answer)?,
     )
 }

@@ -22,10 +22,10 @@ pub fn answer_tokens(call: &Call<'_>, answer: &mut Answer) -> Result<bool, Alloc
     Ok(true)
 }
 
-// The lines of a paragraph, each with its line break, or the cells of a row. In a row the text begins after the pipe
-// before the first cell, each further cell begins after the pipe that ends the one before, and a node `end` marks the
-// end of each.
-fn tokens_of(call: &Call<'_>, row: bool) -> Result<Tree<Item>, AllocError> {
+/// Returns the lines of a paragraph, each with its line break, or the cells of a row. In a row the text begins after the
+/// pipe before the first cell, each further cell begins after the pipe that ends the one before, and a node `end` marks
+/// the end of each.
+pub fn tokens_of(call: &Call<'_>, row: bool) -> Result<Tree<Item>, AllocError> {
     let (alloc, text) = (call.alloc, call.text);
     let options = options_of(call.given.number(0));
     let special = special_bytes(&options);

@@ -1,0 +1,4 @@
+pub mod PartFacts
+pub mod DestinationFacts
+pub mod SpellingFacts
+pub mod IndexFacts

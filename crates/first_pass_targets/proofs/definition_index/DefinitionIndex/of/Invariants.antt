@@ -1,0 +1,6 @@
+use Rattle.first_pass_targets.proofs.IndexFacts.{IsPartOfIndex}
+use Rattle.first_pass_targets.proofs.definition_index.DefinitionIndex.of.Given as goal
+
+-- the definitions so far are in the index
+abbrev pub invariant-loop-label : goal.invariant-loop-label
+invariant-loop-label l = IsPartOfIndex l.firsts l.label-iterator l.table
