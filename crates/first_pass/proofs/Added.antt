@@ -1,11 +1,9 @@
 -- A leaf block that is added to a pass, and what stays the same.
 use Rattle.std.proofs.Common.{◌≡◌, ℕ, ◌≤◌, Bool, List, length, None, IsCharBoundary, ap}
 use Rattle.first_pass_grammar.proofs.Common.{Item, added, AreEachNode, AreNamed, ShowsNothing}
+use Rattle.first_pass.proofs.Common.{FirstPass, AddsLeafBlock, AddsLineBlock, KeepsNames, braces_of, source_of}
 use Rattle.first_pass_blocks.proofs.Common.{names_of, NamesMore, line_end_at, AddsBetween, state_with, PassState, block_added, block_ordered}
-use Rattle.first_pass.specs.declared.state.FirstPass.{FirstPass}
-use Rattle.first_pass.specs.Calls.{AddsLeafBlock, AddsLineBlock}
-use Rattle.first_pass.specs.Kept.{KeepsNames}
-use Rattle.first_pass.specs.Views.{allocs_of, braces_of, state_of, source_of, source_text, tree_of}
+use Rattle.first_pass.specs.Views.{allocs_of, state_of, source_text, tree_of}
 use Rattle.first_pass.proofs.Adding.{may_add_added}
 use Rattle.first_pass.proofs.TablesWhole.{silent_whole}
 

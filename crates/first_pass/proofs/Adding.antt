@@ -1,16 +1,12 @@
 -- The open nodes of a pass can still be closed in order after a call.
-use Rattle.std.proofs.Common.{◌≡◌, ℕ, ◌≤◌, Bool, true, false, List, [], ◌∷◌, ◌++◌, length, Option, Some, None, IsCharBoundary}
-use Rattle.std.proofs.Common.{inl, inr, refl, sym, ap, subst, ◌∙◌, true≢false}
-use Rattle.first_pass_grammar.proofs.Common.{cond_both, false_from_ne_true, Item, TreeIndex, Forest, appended, added, modify, body_at}
-use Rattle.first_pass_grammar.proofs.Common.{with_tokens, with_end, Options}
+use Rattle.std.proofs.Common.{◌≡◌, ℕ, ◌≤◌, Bool, true, false, List, [], ◌∷◌, ◌++◌, length, Option, Some, None, IsCharBoundary, inl, inr, refl, sym, ap, subst}
+use Rattle.std.proofs.Common.{◌∙◌, true≢false}
+use Rattle.first_pass_grammar.proofs.Common.{cond_both, false_from_ne_true, Item, TreeIndex, Forest, appended, added, modify, body_at, with_tokens, with_end}
+use Rattle.first_pass_grammar.proofs.Common.{Options}
+use Rattle.first_pass.proofs.Common.{Table, MayAddAt, ordered_at_later, is_item, top_of, AreNested, CanClose, IsOrderedFrom, AreClassed, classed_ended}
+use Rattle.first_pass.proofs.Common.{nested_classed, nested_front, top_front, added_outside, tree_closes}
 use Rattle.first_pass_blocks.proofs.Common.{with_token, IsOrderedAt, IsReadFrom, PassState, is_list, top_body}
 use Rattle.first_pass_items.specs.declared.item.AlignmentIndex.{AlignmentIndex}
-use Rattle.first_pass_items.specs.declared.item.ItemBody.TheVariants.{Table}
-use Rattle.first_pass_lists.specs.Closing.{is_item}
-use Rattle.first_pass_order.specs.Ordered.{top_of, AreNested, CanClose, IsOrderedFrom}
-use Rattle.first_pass_order.proofs.Nests.{AreClassed, classed_ended, nested_classed, nested_front, top_front, added_outside, tree_closes}
-use Rattle.first_pass_order.proofs.OrderLemmas.{ordered_at_later}
-use Rattle.first_pass.specs.Adding.{MayAddAt}
 
 -- only items are open directly in lists, and the innermost open node is no list
 abbrev pub IsOutside : Forest Item → Type 0

@@ -1,23 +1,15 @@
 -- The order in a pass between two calls: a block with text begins, and the last block has ended.
 use Rattle.std.proofs.Common.{◌≡◌, inl, inr, ℕ, zero, suc, ◌+◌, ◌≤◌, true, false, List, [], ◌∷◌, length, Option, Some, IfSome, slice_get, slice_index, refl}
-use Rattle.std.proofs.Common.{sym, ap}
-use Rattle.std.proofs.Common.{subst, ◌∙◌, arith, option_map, IsCharBoundary, length-append}
-use Rattle.first_pass_grammar.proofs.Common.{false≢true, Item, ItemBody, TreeIndex, Forest, item_at, modify, with_end_at, depths}
-use Rattle.first_pass_grammar.proofs.Common.{Options, IsOrderedTo, FitsOpen, extent_of, is_task_marker, is_text_block}
+use Rattle.std.proofs.Common.{sym, ap, subst, ◌∙◌, arith, option_map, IsCharBoundary, length-append}
+use Rattle.first_pass_grammar.proofs.Common.{false≢true, Item, ItemBody, TreeIndex, Forest, item_at, modify, with_end_at, depths, Options, IsOrderedTo}
+use Rattle.first_pass_grammar.proofs.Common.{FitsOpen, extent_of, is_task_marker, is_text_block}
+use Rattle.first_pass.proofs.Common.{ListItem, DefinitionListDefinition, MayAddAt, get_mid, ordered_begun, top_begun, begun, is_item, with_block, top_of}
+use Rattle.first_pass.proofs.Common.{begun_nested, tree_closes, current_child, open_last_fits, IsOpenPath, HoldsChain, length-map, with_child}
 use Rattle.first_pass_blocks.proofs.Common.{begun_item, is_list, PassState, IsReadFrom, IsReadTo, reached, ordered_later, ordered_none}
-use Rattle.std.proofs.lemmas.List.{length-map}
-use Rattle.first_pass_tree.specs.Forest.{IsForest, IsLastAt, IsOpenPath}
+use Rattle.first_pass_tree.specs.Forest.{IsForest, IsLastAt}
 use Rattle.first_pass_open.specs.Between.{MarkerBetween}
-use Rattle.first_pass_open.specs.OpenBlock.{IsJustPushed, with_child}
-use Rattle.first_pass_containers.proofs.OrderSteps.{top_begun}
-use Rattle.first_pass_items.specs.declared.item.ItemBody.TheVariants.{ListItem, DefinitionListDefinition}
-use Rattle.first_pass_lists.specs.Closing.{begun, is_item, top_body, with_block}
-use Rattle.first_pass_order.specs.Ordered.{top_of}
-use Rattle.first_pass_order.proofs.Nests.{begun_nested, tree_closes}
-use Rattle.first_pass_order.proofs.OrderLemmas.{get_mid, ordered_begun}
-use Rattle.first_pass_order.proofs.RowSplits.{current_child, open_last_fits}
-use Rattle.first_pass.specs.Adding.{MayAddAt}
-use Rattle.first_pass.specs.Holds.{HoldsChain}
+use Rattle.first_pass_open.specs.OpenBlock.{IsJustPushed}
+use Rattle.first_pass_lists.specs.Closing.{top_body}
 use Rattle.first_pass.proofs.Chains.{chain_in, marked_is}
 use Rattle.first_pass.proofs.Adding.{may_add_by}
 use Rattle.first_pass.proofs.OrderJoin.{ordered_ended}

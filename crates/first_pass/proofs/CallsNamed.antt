@@ -6,17 +6,14 @@ use Rattle.first_pass_grammar.proofs.Common.{appended, at_depth, cut_tokens, is_
 use Rattle.first_pass_grammar.proofs.Common.{MathBraces, no_braces, spot, Inline, with_tokens, AppendsLine, lines_from, IsHtml, Document, block_with}
 use Rattle.first_pass_grammar.proofs.Common.{heading_block, rule_block, Names, Extends, AreNamed, index_of, AreColumns, range_text, range_html, IsRawLine}
 use Rattle.first_pass_grammar.proofs.Common.{AreRawLines, AreCells, row_block, table_so_far, inserted, most_inserted, taking}
+use Rattle.first_pass.proofs.Common.{both_nodes, cells_nodes, nodes_named, row_nodes, rows_nodes, ReadsRow, AppendsRaw}
 use Rattle.first_pass_blocks.proofs.Common.{joins_at, with_token, AppendsCell, named_more, text_named, closed_by, path_of, range_of, RawKind, Code, Html}
-use Rattle.first_pass_blocks.proofs.Common.{with_below, OpenTable, ReadsRowLine, AppendsRows, AddsHeading, BecomesHeading, CutsChildren, AddsText}
-use Rattle.first_pass_blocks.proofs.Common.{block_added}
+use Rattle.first_pass_blocks.proofs.Common.{with_below, OpenTable, ReadsRowLine, AppendsRows, AddsHeading, BecomesHeading, CutsChildren, AddsText, block_added}
 use Rattle.first_pass_grammar.proofs.Each.EachToken.{AreEach, both_each, cell_each, heading_each, line_each, raw_each, range_text_each}
 use Rattle.first_pass_grammar.proofs.Names.MoreNames.{extends_none}
 use Rattle.first_pass_grammar.proofs.Names.NamedItems.{HasEntry, IsNamed, block_named, each_named, html_is_free, lines_named, named_both, named_deeper}
 use Rattle.first_pass_grammar.proofs.Names.NamedItems.{named_modified, text_is_free, tokens_entered}
-use Rattle.first_pass_grammar.proofs.Each.EachCell.{both_nodes, cells_nodes, nodes_named, row_nodes, rows_nodes}
 use Rattle.first_pass_grammar.proofs.Names.TextsNamed.{given_entry}
-use Rattle.first_pass_leaves.specs.RawBlocks.{AppendsRaw}
-use Rattle.first_pass_tables.specs.Appends.{ReadsRow}
 use Rattle.first_pass.proofs.CutOrder.{cut_cases}
 
 -- Tokens follow the nodes of a tree; the first of them may be joined to the last node.

@@ -1,25 +1,20 @@
 -- The chain in an open block with text: its tokens, and what a line adds to it.
-use Rattle.std.proofs.Common.{◌≡◌, ℕ, ◌+◌, ◌<◌, ◌≤◌, max, true, false, List, [], ◌∷◌, ◌++◌, append_assoc, length, drop, slice_get}
-use Rattle.std.proofs.Common.{Option, Some, None, IfSome, IsCharBoundary, refl, sym, ap, subst, ◌∙◌, arith, option_map}
-use Rattle.first_pass_grammar.proofs.Common.{drop-append_seam, false≢true, CowStr, MathBraces, Item, ItemBody, TaskListMarker, TreeIndex, Forest}
-use Rattle.first_pass_grammar.proofs.Common.{appended}
-use Rattle.first_pass_grammar.proofs.Common.{at_depth, is_escaped, item_at, AreInOrder, EscapesStand, chained, leaves, chained-nodes, chained-spine}
-use Rattle.first_pass_grammar.proofs.Common.{add_tokens, with_tokens, with_tokens-chained, joins_none-fresh, JoinsNone, AppendsLine, line_in_order, order_to}
-use Rattle.first_pass_grammar.proofs.Common.{order_adds, text_end, text_upto, Document, marker_items, extent_of, is_text_block, is_task_marker, IsBetween}
-use Rattle.first_pass_blocks.proofs.Common.{MarkerBetween, get_front}
-use Rattle.first_pass_blocks.proofs.Common.{ordered_appended, ordered_none, PassState}
-use Rattle.first_pass_open.specs.OpenBlock.{IsJustPushed, with_child}
-use Rattle.first_pass_order.proofs.NamedLemmas.{task_is_no_text}
-use Rattle.first_pass_leaves.proofs.OrderParagraph.{break_unescaped}
+use Rattle.std.proofs.Common.{◌≡◌, ℕ, ◌+◌, ◌<◌, ◌≤◌, max, true, false, List, [], ◌∷◌, ◌++◌, append_assoc, length, drop, slice_get, Option, Some, None, IfSome}
+use Rattle.std.proofs.Common.{IsCharBoundary, refl, sym, ap, subst, ◌∙◌, arith, option_map}
+use Rattle.first_pass_grammar.proofs.Common.{drop-append_seam, false≢true, CowStr, MathBraces, Item, ItemBody, TaskListMarker, TreeIndex, Forest, appended}
+use Rattle.first_pass_grammar.proofs.Common.{at_depth, is_escaped, item_at, AreInOrder, EscapesStand, chained, leaves, chained-nodes, chained-spine, add_tokens}
+use Rattle.first_pass_grammar.proofs.Common.{with_tokens, with_tokens-chained, joins_none-fresh, JoinsNone, AppendsLine, line_in_order, order_to, order_adds}
+use Rattle.first_pass_grammar.proofs.Common.{text_end, text_upto, Document, marker_items, extent_of, is_text_block, is_task_marker, IsBetween}
+use Rattle.first_pass.proofs.Common.{MayAddAt, AreTokens, AreTokensIn, ContinuesChain, HoldsChain, HoldsTokens, task_is_no_text, with_child, break_unescaped}
+use Rattle.first_pass.proofs.Common.{order_append, LineInOrder, StandsAfter}
+use Rattle.first_pass_blocks.proofs.Common.{MarkerBetween, get_front, ordered_appended, ordered_none, PassState}
+use Rattle.first_pass_open.specs.OpenBlock.{IsJustPushed}
 use Rattle.first_pass_tokens.specs.LineTokens.{is_break}
 use Rattle.first_pass_tokens.specs.Pieces.{Inline}
 use Rattle.first_pass_tokens.proofs.ChainLemmas.{appended-chained, joins_none-appended}
 use Rattle.first_pass_tokens.proofs.Escapes.{escapes_adds, escapes_append, line_escapes}
-use Rattle.first_pass_tokens.proofs.OrderLemmas.{order_append, LineInOrder, StandsAfter}
-use Rattle.first_pass.specs.Adding.{MayAddAt}
 use Rattle.first_pass.proofs.Adding.{IsOutside, appended_outside, may_add_by, tokens_outside}
 use Rattle.first_pass.proofs.OrderJoin.{IsOrderedBefore, IsRange, front_of, tokens_after}
-use Rattle.first_pass.specs.Holds.{AreTokens, AreTokensIn, ContinuesChain, HoldsChain, HoldsTokens}
 
 -- a chain in order, in which each escaped text is after its backslash
 pub tokens_in : (text : List ℕ) (from to : ℕ) (chain : List Item) → AreInOrder text from to chain → EscapesStand text from chain

@@ -8,28 +8,18 @@ use Rattle.first_pass_grammar.proofs.Common.{backslash, HeadingIndex, HeadingLev
 use Rattle.first_pass_grammar.proofs.Common.{MaybeDefinitionListTitle, Text, TreeIndex, Forest, body_at, cut_item, cut_siblings, cut_tokens, is_escaped}
 use Rattle.first_pass_grammar.proofs.Common.{item_at, open_place, with_body_at, Document, laid_open, AreAt, open_within, FitsOpen, IsOrderedTo, Ranged}
 use Rattle.first_pass_grammar.proofs.Common.{extent_of, extents, is_text_block, Siblings, Empty, laid, Within, Elsewhere, InText, below, beyond, IsLead, Fits}
-use Rattle.first_pass_grammar.proofs.Common.{body_of, slice_get_within, some_mapped}
-use Rattle.first_pass_grammar.proofs.Common.{body-changed, body-other, depths, modify, length-modify}
-use Rattle.first_pass_blocks.proofs.Common.{Node, ended_at, length-places, get_front, is_list, top_body, PassState, BecomesHeading, CutsChildren}
-use Rattle.first_pass_blocks.proofs.Common.{ordered_none}
+use Rattle.first_pass_grammar.proofs.Common.{body_of, slice_get_within, some_mapped, body-changed, body-other, depths, modify, length-modify}
+use Rattle.first_pass.proofs.Common.{TightParagraph, MayAddAt, extents-body, flags_of, top_there, ordered_tree, is_item, top_of, AreNested, nested_before}
+use Rattle.first_pass.proofs.Common.{top_before, extents-split, IsOpenPath, popped, StandsAfterBackslash, AreTokens, HoldsChain, HoldsTokens, with_tree}
+use Rattle.first_pass_blocks.proofs.Common.{Node, ended_at, length-places, get_front, is_list, top_body, PassState, BecomesHeading, CutsChildren, ordered_none}
 use Rattle.first_pass_blocks.proofs.Common.{ordered_same}
-use Rattle.first_pass_tree.specs.Forest.{IsForest, IsOpenPath, popped}
+use Rattle.first_pass_tree.specs.Forest.{IsForest}
 use Rattle.first_pass_open.proofs.PathLemmas.{AreIn}
-use Rattle.first_pass_lists.specs.Closing.{is_item}
-use Rattle.first_pass_order.specs.Ordered.{top_of, AreNested}
 use Rattle.first_pass_order.proofs.AlikeNodes.{class_of}
 use Rattle.first_pass_order.proofs.DefinitionBegun.{current_past}
-use Rattle.first_pass_order.proofs.Nests.{nested_before, top_before}
-use Rattle.first_pass_containers.proofs.OrderSteps.{ordered_tree}
-use Rattle.first_pass_items.specs.declared.item.ItemBody.TheVariants.{TightParagraph}
 use Rattle.first_pass_grammar.proofs.Order.Orders.{extents-append, fits-one, fits-order, laid-one}
-use Rattle.first_pass_order.proofs.OrderLemmas.{extents-body, flags_of, top_there}
-use Rattle.first_pass.specs.Adding.{MayAddAt}
-use Rattle.first_pass.specs.Views.{with_tree}
-use Rattle.first_pass.specs.Holds.{StandsAfterBackslash, AreTokens, HoldsChain, HoldsTokens}
 use Rattle.first_pass.proofs.Chains.{chain_holds}
 use Rattle.first_pass.proofs.Adding.{IsOutside, may_add_by, no_empty_item, outside_of}
-use Rattle.first_pass_order.proofs.RowSplits.{extents-split}
 
 -- what is made of the first of the nodes that are cut
 pub cut_cases : (e d : ℕ) (n : ℕ × Item) (nodes : List (ℕ × Item)) (P : List (ℕ × Item) → Type 0)

@@ -1,17 +1,14 @@
 -- What was read, up to another offset: one that is not before the last child of the innermost open node.
-use Rattle.std.proofs.Common.{◌≡◌, inl, inr, ℕ, suc, ◌+◌, ◌≤◌, List, [], ◌∷◌, length, slice_get, Option, Some, None, IfSome, IsSomeAnd, refl, sym, ap}
-use Rattle.std.proofs.Common.{subst, ◌∙◌, arith, option_map, length-append}
-use Rattle.first_pass_grammar.proofs.Common.{Item, TreeIndex, Forest, IsForest, item_at, open_place, Options, Ranged, extent_of, extents, Siblings, Empty}
-use Rattle.first_pass_grammar.proofs.Common.{laid, Within, Elsewhere, InItem, InText, InFirst, below, beyond, IsLead, Fits, laid_open, AreAt, open_within}
-use Rattle.first_pass_grammar.proofs.Common.{FitsOpen, IsOrderedTo}
+use Rattle.std.proofs.Common.{◌≡◌, inl, inr, ℕ, suc, ◌+◌, ◌≤◌, List, [], ◌∷◌, length, slice_get, Option, Some, None, IfSome, IsSomeAnd, refl, sym, ap, subst}
+use Rattle.std.proofs.Common.{◌∙◌, arith, option_map, length-append}
+use Rattle.first_pass_grammar.proofs.Common.{Item, TreeIndex, Forest, IsForest, item_at, open_place, Options, Ranged, extent_of, extents, Siblings, Empty, laid}
+use Rattle.first_pass_grammar.proofs.Common.{Within, Elsewhere, InItem, InText, InFirst, below, beyond, IsLead, Fits, laid_open, AreAt, open_within, FitsOpen}
+use Rattle.first_pass_grammar.proofs.Common.{IsOrderedTo}
+use Rattle.first_pass.proofs.Common.{HasEndedBy, LastEndsBy, ordered_at_later, ordered_with, top_there, tree_closes, current_child}
 use Rattle.first_pass_blocks.proofs.Common.{PassState, IsReadFrom, IsReadTo, ordered_none}
 use Rattle.first_pass_grammar.specs.Order.{Node}
 use Rattle.first_pass_grammar.proofs.Order.Orders.{beside, laid_open-level, length-extents}
 use Rattle.first_pass_order.proofs.LeftOrder.{title_later}
-use Rattle.first_pass_order.proofs.Nests.{tree_closes}
-use Rattle.first_pass_order.proofs.OrderLemmas.{ordered_at_later, ordered_with, top_there}
-use Rattle.first_pass_order.proofs.RowSplits.{current_child}
-use Rattle.first_pass.specs.Adding.{HasEndedBy, LastEndsBy}
 
 -- no marker of a paragraph or heading is after its first sibling
 lead_first : (text : List ℕ) (w : Within) (from : ℕ) (x : Ranged) → IsLead text (beyond w) from x → ⊥

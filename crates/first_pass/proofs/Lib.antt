@@ -1,3 +1,4 @@
+pub mod Common
 pub mod Added
 pub mod Adding
 pub mod BetweenCalls

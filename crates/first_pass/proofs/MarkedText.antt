@@ -5,15 +5,11 @@ use Rattle.std.proofs.Common.{subst, ◌∙◌, arith, if◌then◌else◌, opti
 use Rattle.first_pass_grammar.proofs.Common.{false≢true, Item, ItemBody, Paragraph, Heading, DefinitionListTitle, MaybeDefinitionListTitle, TreeIndex, Forest}
 use Rattle.first_pass_grammar.proofs.Common.{appended, body_at, item_on_top, Ranged, extent_of, extents, is_task_marker, is_text_block, Siblings, Empty}
 use Rattle.first_pass_grammar.proofs.Common.{IsBetween, Within, Elsewhere, InItem, InText, below, Fits, laid_open, AreAt, open_within, FitsOpen, IsOrderedTo}
-use Rattle.first_pass_items.specs.declared.item.ItemBody.TheVariants.{TightParagraph}
+use Rattle.first_pass.proofs.Common.{TightParagraph, MayAddAt, top_there, begun, with_block, with_tree}
 use Rattle.first_pass_grammar.specs.OpenOrder.{is_in_item}
 use Rattle.first_pass_grammar.specs.Order.{Node, is_list_item}
 use Rattle.first_pass_grammar.proofs.Order.Orders.{extents-append, laid-one, laid_open-level, length-extents, length-places}
 use Rattle.first_pass_blocks.proofs.Common.{begun_item, is_list, PassState, reached, ordered_later, ordered_none}
-use Rattle.first_pass_lists.specs.Closing.{begun, with_block}
-use Rattle.first_pass_order.proofs.OrderLemmas.{top_there}
-use Rattle.first_pass.specs.Adding.{MayAddAt}
-use Rattle.first_pass.specs.Views.{with_tree}
 use Rattle.first_pass.proofs.BetweenCalls.{may_add_begun}
 use Rattle.first_pass.proofs.Adding.{appended_outside, may_add_by, outside_of}
 

@@ -1,20 +1,16 @@
 -- A text joined to the last child of the innermost open node keeps the tree in order.
 use Rattle.std.proofs.Common.{◌≡◌, ℕ, suc, ◌+◌, ◌≤◌, ◌==◌, ◌&&◌, Bool, true, false, List, [], ◌∷◌, ◌++◌, length, Option, Some, None, IfSome, IsUtf8}
 use Rattle.std.proofs.Common.{IsCharBoundary, refl, sym, ap, subst, ◌∙◌, ◌-◌, arith, if◌then◌else◌, eqb-true, take, length-take-le}
-use Rattle.std.proofs.lemmas.List.{get_or-take}
 use Rattle.first_pass_grammar.proofs.Common.{and_parts, CowStr, MathBraces, Item, ItemBody, Text, TreeIndex, Forest, IsForest, IsLastAt, depths, item_at}
 use Rattle.first_pass_grammar.proofs.Common.{is_text, with_end_at, with_end, appended, modified-is, AreInOrder, EscapesStand, with_tokens, AppendsLine}
-use Rattle.first_pass_grammar.proofs.Common.{order_bound}
-use Rattle.first_pass_grammar.proofs.Common.{order_to, order_from, line_in_order, cell_end_place, Document, text_upto, Ranged, extent_of, is_task_marker}
-use Rattle.first_pass_grammar.proofs.Common.{Empty, laid, IsBetween, laid_open, FitsOpen, IsOrderedTo}
+use Rattle.first_pass_grammar.proofs.Common.{order_bound, order_to, order_from, line_in_order, cell_end_place, Document, text_upto, Ranged, extent_of}
+use Rattle.first_pass_grammar.proofs.Common.{is_task_marker, Empty, laid, IsBetween, laid_open, FitsOpen, IsOrderedTo}
+use Rattle.first_pass.proofs.Common.{last_child, fits_open_last, ends_text_at, get_or-take, cell_in_order}
 use Rattle.first_pass_blocks.proofs.Common.{joins_at, with_token, AppendsCell, Node, ended_at, length-places, PassState, reached, IsOrderedAt, ordered_later}
 use Rattle.first_pass_blocks.proofs.Common.{ordered_appended, ordered_none}
-use Rattle.first_pass_tree.specs.Forest.{ends_text_at}
 use Rattle.first_pass_tree.proofs.Keeps.{appended-is}
-use Rattle.first_pass_tokens.proofs.OrderLemmas.{cell_in_order}
 use Rattle.first_pass_leaves.proofs.TextFronts.{front_utf8, place_in_front, place_in_text, order_in_text}
 use Rattle.first_pass_grammar.proofs.Order.Orders.{beside, laid_open-beside, extents-ended}
-use Rattle.first_pass_order.proofs.RowSplits.{last_child, fits_open_last}
 
 -- the last child of the innermost open node ends later; it is not a task list item marker
 pub ordered_ended : (text : List ℕ) (f : Forest Item) (a e : ℕ) (c : TreeIndex) (y : Item) → IsLastAt (depths f.nodes) (length f.spine + 1) c.0

@@ -3,26 +3,16 @@ use Rattle.std.proofs.Common.{◌≡◌, inl, inr, ℕ, ◌+◌, ◌<◌, ◌≤
 use Rattle.std.proofs.Common.{subst, ◌∙◌, arith}
 use Rattle.first_pass_grammar.proofs.Common.{none-some, Item, TreeIndex, Forest, added, at_depth, body_at, counted_nodes, IsOrderedTo, GrowsBy, Document}
 use Rattle.first_pass_grammar.proofs.Common.{around, spot}
+use Rattle.first_pass.proofs.Common.{Table, MayAddAt, ordered_added, ordered_closed, ordered_tree, is_item, top_of, AreNested, added_outside, top_front}
+use Rattle.first_pass.proofs.Common.{after_row, IsTableOpen, ClosesBetween, IsOpenNode, ReadsRow, AddsTexts, FirstPass, ReadsRowFrom, KeepsEntries, with_tree}
 use Rattle.first_pass_blocks.proofs.Common.{own_added, IsJustPushed, closed_by, AddsBetween, with_below, names_of, block_count, ordered_same, ordered_later}
 use Rattle.first_pass_blocks.proofs.Common.{ordered_none, OpenTable, PassState, ReadsRowLine, path_of}
-use Rattle.first_pass_items.specs.declared.item.ItemBody.TheVariants.{Table}
-use Rattle.first_pass_lists.specs.Closing.{is_item, top_body}
-use Rattle.first_pass_order.specs.Ordered.{top_of, AreNested}
-use Rattle.first_pass_order.proofs.Nests.{added_outside, top_front}
-use Rattle.first_pass_containers.proofs.OrderSteps.{ordered_tree}
+use Rattle.first_pass_lists.specs.Closing.{top_body}
 use Rattle.first_pass_grammar.proofs.Count.CountedNodes.{own_ended}
-use Rattle.first_pass_tables.specs.Appends.{ClosesBetween, IsOpenNode, ReadsRow}
 use Rattle.first_pass_tables.proofs.CellsFit.{row_boundary}
 use Rattle.first_pass_tables.proofs.RowPlaces.{begins_row}
-use Rattle.first_pass_names.specs.TableEntries.{AddsTexts}
-use Rattle.first_pass.specs.declared.state.FirstPass.{FirstPass}
-use Rattle.first_pass.specs.Calls.{ReadsRowFrom}
-use Rattle.first_pass.specs.Adding.{MayAddAt}
-use Rattle.first_pass.specs.Holds.{after_row, IsTableOpen}
 use Rattle.first_pass.proofs.Adding.{IsOutside, may_add_by, no_empty_item, outside_of, table_closed}
-use Rattle.first_pass.specs.Kept.{KeepsEntries}
-use Rattle.first_pass.specs.Views.{allocs_of, source_text, state_of, tree_of, with_tree}
-use Rattle.first_pass_order.proofs.OrderLemmas.{ordered_added, ordered_closed}
+use Rattle.first_pass.specs.Views.{allocs_of, source_text, state_of, tree_of}
 
 -- a row is added, or none
 row_ordered : (text : List ℕ) (old new : Forest Item) (at ix : ℕ) (row : Option (ℕ × TreeIndex)) → at ≤ ix → ix ≤ length text → (row ≡ None → new ≡ old)

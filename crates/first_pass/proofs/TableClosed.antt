@@ -1,18 +1,12 @@
 -- A table that is opened, and closed after its rows, keeps whole tables.
 use Rattle.std.proofs.Common.{◌≡◌, ℕ, suc, ◌+◌, ◌≤◌, List, [], ◌∷◌, ◌++◌, length, map, slice_get, refl, sym, ap, ◌∙◌, arith, append-nil, unwrap_or}
-use Rattle.first_pass_grammar.proofs.Common.{false≢true, map-append, Item, Alignment, AlignmentIndex, TreeIndex, Forest, added, block_of, at_depth}
-use Rattle.first_pass_grammar.proofs.Common.{Document, Names, Extends, AreNamed, AreWholeTables, HasWholeTables, Mark, ATable, ARow, ACell, RowCells, TableRows}
-use Rattle.first_pass_grammar.proofs.Common.{AreFull, HaveCells, marks, row_marks, table_marks, most_inserted}
+use Rattle.first_pass_grammar.proofs.Common.{false≢true, map-append, Item, Alignment, AlignmentIndex, TreeIndex, Forest, added, block_of, at_depth, Document}
+use Rattle.first_pass_grammar.proofs.Common.{Names, Extends, AreNamed, AreWholeTables, HasWholeTables, Mark, ATable, ARow, ACell, RowCells, TableRows, AreFull}
+use Rattle.first_pass_grammar.proofs.Common.{HaveCells, marks, row_marks, table_marks, most_inserted}
+use Rattle.first_pass.proofs.Common.{Table, begun, popped, AddsWholeRows, inserted_in, AddsTexts, mark_deeper, marks-at_depth}
 use Rattle.first_pass_blocks.proofs.Common.{PassState, begun_item, block_whole, closed_by, kept_of, with_below}
-use Rattle.first_pass_items.specs.declared.item.ItemBody.TheVariants.{Table}
 use Rattle.first_pass_grammar.specs.Names.{alignments_named}
-use Rattle.first_pass_grammar.specs.WholeTables.{inserted_in}
-use Rattle.first_pass_grammar.proofs.WholeTables.TableMarks.{mark_deeper, marks-at_depth}
-use Rattle.first_pass_names.specs.TableEntries.{AddsTexts}
-use Rattle.first_pass_tables.specs.Appends.{AddsWholeRows}
-use Rattle.first_pass_tree.specs.Forest.{popped}
 use Rattle.first_pass_tree.proofs.Blocks.{block-built}
-use Rattle.first_pass_lists.specs.Closing.{begun}
 
 -- rows at another depth
 cells_deeper : (d depth : ℕ) (starts : List ℕ) → map (mark_deeper d) (map (ACell depth) starts) ≡ map (ACell (d + depth)) starts

@@ -1,29 +1,21 @@
 -- The tables of a pass stay whole as nodes are opened and closed, and as tokens, or a block without a table, are added.
 use Rattle.std.proofs.Common.{◌≡◌, ℕ, zero, suc, ◌+◌, ◌==◌, ◌&&◌, true, false, List, [], ◌∷◌, ◌++◌, length, Option, Some, None, IfSome, IsSomeAnd, refl, sym}
 use Rattle.std.proofs.Common.{ap, subst, ◌∙◌, true≢false, arith, drop, IsCharBoundary}
-use Rattle.first_pass_grammar.proofs.Common.{and_parts, cond_both, option_map_or, HeadingLevel, Item, ItemBody, Heading, HtmlBlock, Text}
-use Rattle.first_pass_grammar.proofs.Common.{TreeIndex, Forest, IsForest, appended, added, body_at, body-kept, body_of, item_at, is_text, leaves, modify}
-use Rattle.first_pass_grammar.proofs.Common.{with_end, with_end_at, with_tokens, MathBraces, Inline, AppendsLine, Document, block_with, heading_block}
-use Rattle.first_pass_grammar.proofs.Common.{rule_block, Names, Extends, AreNamed, AreColumns, Ranges, range_html, range_text, IsHtml, IsRawLine, AreRawLines}
-use Rattle.first_pass_grammar.proofs.Common.{AreEachNode, HasWholeTables, ShowsNothing, SilentFrom, may_be_title}
-use Rattle.first_pass_grammar.proofs.Common.{is_task_marker, Place, line_place, line_is_place, offset}
-use Rattle.first_pass_blocks.proofs.Leaves.TextLemmas.{text_kept}
+use Rattle.first_pass_grammar.proofs.Common.{and_parts, cond_both, option_map_or, HeadingLevel, Item, ItemBody, Heading, HtmlBlock, Text, TreeIndex, Forest}
+use Rattle.first_pass_grammar.proofs.Common.{IsForest, appended, added, body_at, body-kept, body_of, item_at, is_text, leaves, modify, with_end, with_end_at}
+use Rattle.first_pass_grammar.proofs.Common.{with_tokens, MathBraces, Inline, AppendsLine, Document, block_with, heading_block, rule_block, Names, Extends}
+use Rattle.first_pass_grammar.proofs.Common.{AreNamed, AreColumns, Ranges, range_html, range_text, IsHtml, IsRawLine, AreRawLines, AreEachNode, HasWholeTables}
+use Rattle.first_pass_grammar.proofs.Common.{ShowsNothing, SilentFrom, may_be_title, is_task_marker, Place, line_place, line_is_place, offset}
+use Rattle.first_pass.proofs.Common.{list_continued, title_there, ends_text_at, block_nodes, leaves_nodes, AppendsRaw, IsSilentLast, none_shown, tokens_show}
+use Rattle.first_pass.proofs.Common.{text_kept, IsNoRow, IsSilentFirst, ended_keeps, front_keeps, marks_ended, may_not_open, more_whole, none_kept, whole_kept}
 use Rattle.first_pass_blocks.proofs.Common.{AddsText, joins_at, with_token, AppendsCell, AddsHeading, range_of, RawKind, Code, Html, PassState, kept_of}
 use Rattle.first_pass_blocks.proofs.Common.{block_whole}
-use Rattle.first_pass_grammar.specs.WholeTables.{IsSilentLast}
-use Rattle.first_pass_grammar.proofs.Each.EachCell.{block_nodes, leaves_nodes}
 use Rattle.first_pass_grammar.proofs.Each.EachToken.{AreEach, HoldsOfRaw, both_each, cell_each, heading_each, line_each, raw_each, raw_lines_each}
 use Rattle.first_pass_grammar.proofs.Each.EachToken.{range_text_each}
 use Rattle.first_pass_grammar.proofs.Names.MoreNames.{extends_none}
-use Rattle.first_pass_grammar.proofs.WholeTables.TableMarks.{none_shown, tokens_show}
 use Rattle.first_pass_grammar.proofs.WholeTables.WholeBlocks.{whole_none}
 use Rattle.first_pass_grammar.proofs.WholeTables.WholeForests.{whole_both, whole_same}
-use Rattle.first_pass_tree.specs.Forest.{ends_text_at}
-use Rattle.first_pass_leaves.specs.RawBlocks.{AppendsRaw}
-use Rattle.first_pass_lists.specs.Closing.{list_continued}
-use Rattle.first_pass_order.proofs.Nests.{title_there}
 use Rattle.first_pass_order.proofs.PropertyKept.{MayLeave, list_continued_keeps}
-use Rattle.first_pass_order.proofs.WholeKept.{IsNoRow, IsSilentFirst, ended_keeps, front_keeps, marks_ended, may_not_open, more_whole, none_kept, whole_kept}
 
 -- nodes at the end that are no part of a table
 silent_past : (nodes : List (ℕ × Item)) (n : ℕ × Item) (more : List (ℕ × Item)) → AreEachNode ShowsNothing (n ∷ more)

@@ -1,11 +1,9 @@
 -- An open paragraph whose lines were read contains a chain, whose tokens are in order.
 use Rattle.std.proofs.Common.{◌≡◌, ℕ, ◌≤◌, List, [], ◌∷◌, length, IsUtf8, refl, sym, ap, subst, ◌∙◌, arith}
-use Rattle.first_pass_grammar.proofs.Common.{Item, Paragraph, TreeIndex, Forest, appended, start_of, start_of-lines, AreInOrder, chained}
-use Rattle.first_pass_grammar.proofs.Common.{order_bound, order_to, Document, TextLines, IsOrderedTo, extent_of, IsBetween}
+use Rattle.first_pass_grammar.proofs.Common.{Item, Paragraph, TreeIndex, Forest, appended, start_of, start_of-lines, AreInOrder, chained, order_bound, order_to}
+use Rattle.first_pass_grammar.proofs.Common.{Document, TextLines, IsOrderedTo, extent_of, IsBetween}
+use Rattle.first_pass.proofs.Common.{HoldsChain, HoldsText, HoldsTokens, with_child, TextInOrder, text_is_in_order}
 use Rattle.first_pass_blocks.proofs.Common.{begun_item, path_of, ordered_appended, ordered_later}
-use Rattle.first_pass_open.specs.OpenBlock.{with_child}
-use Rattle.first_pass_leaves.proofs.OrderParagraph.{TextInOrder, text_is_in_order}
-use Rattle.first_pass.specs.Holds.{HoldsChain, HoldsText, HoldsTokens}
 use Rattle.first_pass.proofs.Chains.{chain_holds, chain_in, marked_is, tokens_in}
 
 -- a chain is added

@@ -1,5 +1,6 @@
 -- Autolinks and raw HTML end with the byte `>`.
-use Rattle.std.proofs.Common.{◌≡◌, ℕ, suc, ◌+◌, Bool, true, false, true≢false, ◌==◌, ◌&&◌, List, [], ◌∷◌, ◌++◌, length, take, drop, get_or, Option, Some, None, refl, sym, ap, ◌∙◌, arith}
+use Rattle.std.proofs.Common.{◌≡◌, ℕ, suc, ◌+◌, Bool, true, false, true≢false, ◌==◌, ◌&&◌}
+use Rattle.std.proofs.Common.{List, [], ◌∷◌, ◌++◌, length, take, drop, get_or, Option, Some, None, refl, sym, ap, ◌∙◌, arith}
 use Rattle.std.proofs.Common.{if◌then◌else◌, ◌⊎◌, inl, inr, length-append, get_or-drop, get_or-take}
 use Rattle.std.proofs.Math.Seq.{get_or-append_seam}
 use Rattle.std.specs.Option.{option_map}
@@ -84,8 +85,11 @@ pub begins_closes : (front bs : List ℕ) → begins_with (closed_text front) bs
 begins_closes front bs h =
     let text : List ℕ = closed_text front in
     let part : text ≡ take (length text) bs = (bytes_eq-Decides text _).0 h in
-    let size = length-append front (greater_than ∷ []) in
-    (length front, refl, sym (get_or-take (length text) bs (length front) 0 (omega (arith, size))) ∙ ap (λ xs. get_or xs (length front) 0) (sym part) ∙ last_byte front)
+    let size = length-append front (greater_than ∷ []) in (
+      length front,
+      refl,
+      sym (get_or-take (length text) bs (length front) 0 (omega (arith, size))) ∙ ap (λ xs. get_or xs (length front) 0) (sym part) ∙ last_byte front,
+    )
 
 end_by : (t : Bool) (a n : ℕ) (o : Option ℕ) → (if t then Some a else option_map (λ k. 1 + k) o) ≡ Some n
     → ((t ≡ true) × (a ≡ n)) ⊎ ((k : ℕ) × (o ≡ Some k) × (1 + k ≡ n))
@@ -103,4 +107,5 @@ end_closes front (b ∷ bs) n h =
     ]
 
 pub text_end_closes : (front content : List ℕ) (place n : ℕ) → text_end (closed_text front) content place ≡ Some n → Closes content n
-text_end_closes front content place n h = mapped place content (end_len (closed_text front) (drop place content)) n (λ k e. end_closes front (drop place content) k e) h
+text_end_closes front content place n h =
+    mapped place content (end_len (closed_text front) (drop place content)) n (λ k e. end_closes front (drop place content) k e) h

@@ -1,5 +1,6 @@
 -- The first token from an index on that has a number, and the tables of such tokens.
-use Rattle.std.proofs.Common.{◌≡◌, ℕ, zero, suc, ◌+◌, ◌<◌, ◌≤◌, ◌==◌, Bool, true, false, List, [], ◌∷◌, length, drop, get_or, set, Option, Some, None, IfSome, nat_eq, ◌-◌, ◌++◌, if◌then◌else◌}
+use Rattle.std.proofs.Common.{◌≡◌, ℕ, zero, suc, ◌+◌, ◌<◌, ◌≤◌, ◌==◌, Bool, true, false}
+use Rattle.std.proofs.Common.{List, [], ◌∷◌, length, drop, get_or, set, Option, Some, None, IfSome, nat_eq, ◌-◌, ◌++◌, if◌then◌else◌}
 use Rattle.std.proofs.Common.{⊎_elim, refl, sym, ap, ◌∙◌, arith, replicate}
 use Rattle.std.specs.List.{position_or_len, slice_get}
 use Rattle.std.specs.Option.{option_and_then, option_eq}
@@ -22,7 +23,8 @@ drop_at [] i x h = absurd (none-some x h)
 drop_at (y ∷ ys) zero x h = ap (λ z. z ∷ ys) (same_Some y x h)
 drop_at (y ∷ ys) (suc i) x h = drop_at ys i x h
 
-pub hit : (test : ℕ × Item → Bool) (tokens : List (ℕ × Item)) (i : ℕ) (x : ℕ × Item) → slice_get tokens i ≡ Some x → test x ≡ true → first_from test tokens i ≡ i
+pub hit : (test : ℕ × Item → Bool) (tokens : List (ℕ × Item)) (i : ℕ) (x : ℕ × Item) → slice_get tokens i ≡ Some x → test x ≡ true
+    → first_from test tokens i ≡ i
 hit test tokens i x at h = ap (λ l. i + position_or_len test l) (drop_at tokens i x at) ∙ rw h (omega arith)
 
 pub miss : (test : ℕ × Item → Bool) (tokens : List (ℕ × Item)) (i : ℕ) (x : ℕ × Item) → slice_get tokens i ≡ Some x → test x ≡ false
@@ -146,7 +148,8 @@ none_sought mark tokens keys i n h =
     let k = sought_key mark tokens i n h in
     keys i k.0 (key_within (key mark) tokens i k.0 k.1) k.1
 
-pub keys_below : (mark : Mark) (tokens : List (ℕ × Item)) (most bound : ℕ) → KeysIn mark tokens (length tokens) (Some most) → most + 1 ≡ bound → KeysBelow mark tokens bound
+pub keys_below : (mark : Mark) (tokens : List (ℕ × Item)) (most bound : ℕ) → KeysIn mark tokens (length tokens) (Some most) → most + 1 ≡ bound
+    → KeysBelow mark tokens bound
 keys_below mark tokens most bound keys e i n h =
     let le : n ≤ most = keys i n (key_within (key mark) tokens i n h) h in
     omega (arith, e, le)
@@ -162,7 +165,8 @@ number_eq : (n : ℕ) (o : Option ℕ) → option_eq nat_eq o (Some n) ≡ is_nu
 number_eq n None = refl
 number_eq n (Some m) = refl
 
-pub later_skips : (tokens : List (ℕ × Item)) (at context : ℕ) → at + 1 < length tokens → option_eq nat_eq (key_at math_key tokens (at + 1)) (Some context) ≡ false
+pub later_skips : (tokens : List (ℕ × Item)) (at context : ℕ) → at + 1 < length tokens
+    → option_eq nat_eq (key_at math_key tokens (at + 1)) (Some context) ≡ false
     → later (has_math context) tokens at ≡ later (has_math context) tokens (at + 1)
 later_skips tokens at context h other =
     let t = some_token tokens (at + 1) h in
@@ -184,7 +188,8 @@ last_start mark tokens most items e n below =
     ∙ sym (past (has_key mark n) tokens (length tokens) (omega arith))
 
 -- an entry of a table
-pub entry_in : (tokens : List (ℕ × Item)) (next items : List ℕ) (at : ℕ) (test : ℕ × Item → Bool) → next ≡ items → get_or items at 0 ≡ first_from test tokens (at + 1)
+pub entry_in : (tokens : List (ℕ × Item)) (next items : List ℕ) (at : ℕ) (test : ℕ × Item → Bool) → next ≡ items
+    → get_or items at 0 ≡ first_from test tokens (at + 1)
     → in_chain tokens (get_or next at 0) ≡ later test tokens at
 entry_in tokens next items at test e h = ap (in_chain tokens) (ap (λ l. get_or l at 0) e ∙ h)
 

@@ -76,15 +76,16 @@ code_end tokens i = option_and_then (λ n. later (has_code n) tokens i) (key_at 
 abbrev pub is_dollar_at : List (ℕ × Item) → ℕ → Bool
 is_dollar_at tokens i = is_some (key_at math_key tokens i)
 
--- the token with an index is a dollar sign that can close math
+-- there is a token, and it is a dollar sign that can close math
 abbrev pub closes_by : Option (ℕ × Item) → Bool
 closes_by None = false
 closes_by (Some token) = closes_math token.1.body
 
+-- the token with an index is a dollar sign that can close math
 abbrev pub closes_at : List (ℕ × Item) → ℕ → Bool
 closes_at tokens i = closes_by (slice_get tokens i)
 
--- the end of math
+-- the end of display math, or of inline math, with the token of an index
 abbrev pub ended_at : Bool → ℕ → MathEnd
 ended_at display i = record { last = i; display = display }
 

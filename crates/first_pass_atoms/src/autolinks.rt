@@ -1,7 +1,8 @@
 //! Autolinks. CommonMark 6.5.
 
-ghost use Rattle.first_pass_atoms.specs.Autolinks.{address_of, autolink_at, closed, email_len, is_domain, is_domain_byte};
-ghost use Rattle.first_pass_atoms.specs.Autolinks.{is_label, is_local_byte, is_scheme_byte, is_uri_byte, scheme_len, uri_len};
+ghost use Rattle.first_pass_atoms.specs.Autolinks.{address_of, autolink_at, closed, email_len, is_domain};
+ghost use Rattle.first_pass_atoms.specs.Autolinks.{is_domain_byte, is_label, is_local_byte, is_scheme_byte, is_uri_byte};
+ghost use Rattle.first_pass_atoms.specs.Autolinks.{scheme_len, uri_len};
 ghost use Rattle.first_pass_html.specs.TagLengths.{word_len};
 ghost use Rattle.std.specs.Char.{is_ascii_alphabetic};
 ghost use Rattle.std.specs.List.{prefix_len};

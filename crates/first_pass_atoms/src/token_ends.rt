@@ -159,8 +159,8 @@ fn closes_at(tokens: &[(usize, Item)], at: usize) -> bool
     }
 }
 
-// The number of the mark that the token with this index has: of a run of backquotes its length, of a dollar sign its brace
-// context.
+// The number of the mark that the token with this index has: of a run of backquotes its length, of a dollar sign its
+// brace context.
 fn key_at(mark: Mark, tokens: &[(usize, Item)], at: usize) -> Option<usize>
     ensures value { result ≡ key_at (key mark) tokens.now at }
 {

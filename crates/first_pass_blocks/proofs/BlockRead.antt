@@ -1,23 +1,16 @@
 -- A pass read a block, after its first line closed, continued and opened containers; and one block after another.
 use Rattle.std.proofs.Common.{◌≡◌, ℕ, ◌+◌, ◌<◌, ◌≤◌, Bool, false, List, Option, Some, None, length, drop, IsUtf8, IsCharBoundary, refl, sym, ap, subst, ◌∙◌}
 use Rattle.std.proofs.Common.{arith, ◌*◌}
-use Rattle.first_pass_grammar.proofs.Common.{Item, line_len, Place, offset, line_end, line_end_boundary, document, AreNamed, Names, Extends, GrowsBy}
-use Rattle.first_pass_grammar.proofs.Common.{IsForest, Options, counted_nodes, lines_from, IsPlaceOf}
-use Rattle.first_pass_blocks.proofs.Common.{tables_in, tables_of, names_of, Allocations, extends_equal, extends_both, extends_none}
-use Rattle.first_pass_blocks.proofs.Common.{TablesAreWritten, Source, PassState}
-use Rattle.first_pass_blocks.proofs.Common.{AfterMarker, OnLine, TaskText, LineEnds, OnlyTag, Position, LineAt, InLine, LeafAt, IsNotBefore, ReadsTo}
+use Rattle.first_pass_grammar.proofs.Common.{Item, line_len, Place, offset, line_end, line_end_boundary, document, AreNamed, Names, Extends, GrowsBy, IsForest}
+use Rattle.first_pass_grammar.proofs.Common.{Options, counted_nodes, lines_from, IsPlaceOf}
+use Rattle.first_pass_blocks.proofs.Common.{tables_in, tables_of, names_of, Allocations, extends_equal, extends_both, extends_none, TablesAreWritten, Source}
+use Rattle.first_pass_blocks.proofs.Common.{PassState, AfterMarker, OnLine, TaskText, LineEnds, OnlyTag, Position, LineAt, InLine, LeafAt, IsNotBefore, ReadsTo}
 use Rattle.first_pass_blocks.proofs.Common.{StaysSame, ReadsLeaf, last_at, IsStateAtPlace, place_before_end, only_leaf, reads_none, allocs_of, front_of}
-use Rattle.first_pass_blocks.proofs.Common.{state_of, source_of, source_text, tree_of, source_options, IsReadFrom, Ready}
+use Rattle.first_pass_blocks.proofs.Common.{state_of, source_of, source_text, tree_of, source_options, IsReadFrom, Ready, BlockPass, Entries, footdefs_of}
+use Rattle.first_pass_blocks.proofs.Common.{BeginsNoContainer, line_later, footnotes_in, GrowsTo, GrowsFrom, HasFirstLabels, HasSameParts, ReadsBlock}
+use Rattle.first_pass_blocks.proofs.Common.{IsAtPlace, KeepsPass, PassesTo, ReadsBlockOf, ReadsEntered}
 use Rattle.first_pass_containers.specs.Entering.{EntersLine}
-use Rattle.first_pass_names.specs.TableEntries.{Entries, footdefs_of}
-use Rattle.first_pass_order.specs.Footnotes.{footnotes_in}
-use Rattle.first_pass_blocks.specs.Written.{HasFirstLabels}
 use Rattle.first_pass_blocks.proofs.FootnoteLabels.{labels_stay}
-use Rattle.first_pass_blocks.specs.Progress.{HasSameParts, ReadsBlock, IsAtPlace, KeepsPass, PassesTo, ReadsBlockOf, ReadsEntered}
-use Rattle.first_pass_containers.specs.Starts.{BeginsNoContainer}
-use Rattle.first_pass_blocks.specs.declared.state.BlockPass.{BlockPass}
-use Rattle.first_pass_containers.specs.Positions.{GrowsTo, GrowsFrom}
-use Rattle.first_pass_containers.proofs.OrderSteps.{line_later}
 
 -- a step of the state is a step of the pass
 pub passes_state : (over : Source) (line : ℕ) (old new : BlockPass) (p q : Position) → source_of new ≡ source_of old → allocs_of new ≡ allocs_of old

@@ -4,14 +4,11 @@ use Rattle.std.proofs.Common.{◌≡◌, ℕ, List, [], ◌∷◌, ◌++◌, map
 use Rattle.std.specs.List.{AllZip}
 use Rattle.first_pass_grammar.proofs.Common.{CowIndex, CowStr, Item, Names, Extends, map-append, with_first}
 use Rattle.first_pass_grammar.proofs.Each.EachPair.{both_pairs}
-use Rattle.first_pass_grammar.proofs.Names.MoreNames.{still_there}
 use Rattle.first_pass_labels.proofs.TextOrder.{with_one_more}
 use Rattle.first_pass_labels.specs.LabelTables.{table_of, with_all}
 use Rattle.first_pass_labels.specs.declared.label_table.FootnoteDef.{FootnoteDef}
-use Rattle.first_pass_blocks.proofs.Common.{Allocations, names_of}
-use Rattle.first_pass_names.specs.TableEntries.{Entries, entries, footdefs_of, footnote_label, AddsFootnote}
-use Rattle.first_pass_order.specs.Footnotes.{footnotes_in}
-use Rattle.first_pass_blocks.specs.Written.{AreFirstLabels, CopiesText, HasFirstLabels, unused}
+use Rattle.first_pass_blocks.proofs.Common.{Allocations, names_of, Entries, entries, footdefs_of, footnote_label, AddsFootnote, footnotes_in, AreFirstLabels}
+use Rattle.first_pass_blocks.proofs.Common.{CopiesText, HasFirstLabels, unused, still_there}
 
 -- copies of the strings at these indices
 abbrev AreCopies : Names → List CowIndex → List CowStr → Type 0

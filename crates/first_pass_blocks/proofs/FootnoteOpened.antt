@@ -5,25 +5,16 @@ use Rattle.first_pass_grammar.proofs.Common.{with_footnote_label, lines_from, fo
 use Rattle.first_pass_grammar.proofs.Common.{gfm_footnotes, line_len, place_length, AreNamed}
 use Rattle.first_pass_blocks.proofs.Common.{named_more, tables_of, names_of, all_keep, PassState, line_or, OrderedIn, TriesFootnote, allocs_of, state_of}
 use Rattle.first_pass_blocks.proofs.Common.{source_of, source_text, tree_of, context_in, front_of, line_or-below, unindented_later, IsStateAtPlace, no_table}
-use Rattle.first_pass_blocks.proofs.Common.{head_at_mark, FinishesNothing}
-use Rattle.first_pass_names.proofs.NameLemmas.{extends_named, extends_none, text_last}
-use Rattle.first_pass_open.proofs.PlaceLemmas.{line_start_end}
+use Rattle.first_pass_blocks.proofs.Common.{head_at_mark, FinishesNothing, BlockPass, ordered_on, ordered_note_in, note_named, note_whole, more_whole}
+use Rattle.first_pass_blocks.proofs.Common.{footnotes_in, note_notes, head_after_is, line_after, note_count, extends_named, text_last, line_start_end, ReadyAt}
+use Rattle.first_pass_names.proofs.NameLemmas.{extends_none}
 use Rattle.first_pass_lists.specs.Closing.{footnote_begun}
-use Rattle.first_pass_blocks.specs.declared.state.BlockPass.{BlockPass}
-use Rattle.first_pass_ready.specs.State.{ReadyAt}
 use Rattle.first_pass_blocks.specs.OpenedFootnotes.{OpenedFootnote}
 use Rattle.first_pass_blocks.proofs.FootnoteLabels.{labels_more}
 use Rattle.first_pass_blocks.proofs.LinkDefinitions.{footnote_written}
 use Rattle.first_pass_ready.proofs.FootnoteLemmas.{after_note, note_is_open}
-use Rattle.first_pass_containers.proofs.OrderSteps.{ordered_on, ordered_note_in}
 use Rattle.first_pass_containers.proofs.Openings.StartLemmas.{footnote_just_opened}
-use Rattle.first_pass_order.proofs.CountLemmas.{note_count}
-use Rattle.first_pass_order.specs.Footnotes.{footnotes_in}
-use Rattle.first_pass_order.proofs.FootnotesKept.{note_notes}
-use Rattle.first_pass_order.proofs.NamedLemmas.{note_named}
-use Rattle.first_pass_order.proofs.WholeKept.{note_whole, more_whole}
 use Rattle.first_pass_containers.specs.FootnoteHeads.{footnote_mark_at, head_read, after_head, IsAfterHead}
-use Rattle.first_pass_containers.proofs.Openings.HeadLemmas.{head_after_is, line_after}
 
 -- a footnote definition is open at an offset, with the length of its head as read
 abbrev pub IsRead : BlockPass → BlockPass → ℕ → ℕ × List ℕ → ℕ → Type 0

@@ -1,27 +1,23 @@
 -- How link reference definitions are read one after the other, and that each is written in the text.
-use Rattle.std.proofs.Common.{◌≡◌, ℕ, ◌+◌, Bool, List, [], ◌∷◌, map, drop, Option, Some, IfSome, refl, sym, ap, subst, ◌∙◌, All, inl, inr, ◌-◌, ◌<◌, ◌||◌}
-use Rattle.std.proofs.Common.{true, false, length, slice_index, None, IsSomeAnd, MatchOption, IsUtf8, IsCharBoundary, arith, if◌then◌else◌, ◌≤◌, ◌++◌}
-use Rattle.std.proofs.Common.{append_assoc, append-nil, option_map, true≢false, get_or-drop}
+use Rattle.std.proofs.Common.{◌≡◌, ℕ, ◌+◌, Bool, List, [], ◌∷◌, map, drop, Option, Some, IfSome, refl, sym, ap, subst, ◌∙◌, All, inl, inr, ◌-◌, ◌<◌, ◌||◌, true}
+use Rattle.std.proofs.Common.{false, length, slice_index, None, IsSomeAnd, MatchOption, IsUtf8, IsCharBoundary, arith, if◌then◌else◌, ◌≤◌, ◌++◌, append_assoc}
+use Rattle.std.proofs.Common.{append-nil, option_map, true≢false, get_or-drop}
 use Rattle.first_pass_grammar.proofs.Common.{All-nil, CowStr, LinkDef, in_table, Context, front, reference_definition_at, LinkReference, link_definition_at}
 use Rattle.first_pass_grammar.proofs.Common.{lines_beyond, ends_run, Ended, FlowsOn, IsRun, Beyond, Tables, no_tables, with_definitions, Borrows, text_of}
 use Rattle.first_pass_grammar.proofs.Common.{footnote_at, label_bytes, cases_lt, drop_all, is_line_end, line_len, begins, Rest, Place, offset, line_rest}
-use Rattle.first_pass_grammar.proofs.Common.{IsPlaceOf, line_place, place_at, line_end, unescaped, all_taken, is_blank_rest, unindented}
-use Rattle.first_pass_grammar.proofs.Common.{is_ordinary_after_tag, left_bracket, line_len-within, lines_at-line, lines_at-end, LinkEntry, lines_from}
+use Rattle.first_pass_grammar.proofs.Common.{IsPlaceOf, line_place, place_at, line_end, unescaped, all_taken, is_blank_rest, unindented, is_ordinary_after_tag}
+use Rattle.first_pass_grammar.proofs.Common.{left_bracket, line_len-within, lines_at-line, lines_at-end, LinkEntry, lines_from}
 use Rattle.first_pass_blocks.proofs.Common.{Allocations, tables_of, link_entry, IsReference, TablesAreWritten, context_in, source_text, tree_of, told_none}
-use Rattle.first_pass_blocks.proofs.Common.{line_stops, PutsDefinitions, ReadsRun, IsLater, text_place, Container, Source, PassState, context_of}
-use Rattle.first_pass_blocks.proofs.Common.{source_of, state_of}
+use Rattle.first_pass_blocks.proofs.Common.{line_stops, PutsDefinitions, ReadsRun, IsLater, text_place, Container, Source, PassState, context_of, source_of}
+use Rattle.first_pass_blocks.proofs.Common.{state_of, BlockPass, Entries, entries, with_definition, AddsFootnote, footnote_label, refdefs_of, footdefs_of}
+use Rattle.first_pass_blocks.proofs.Common.{lines_after_it, IsFootnoteWritten, AreFootnotesWritten, tag_end}
 use Rattle.first_pass_grammar.specs.LinkRuns.{reference_places, entry_of}
-use Rattle.first_pass_names.specs.TableEntries.{Entries, entries, with_definition, AddsFootnote, footnote_label, refdefs_of, footdefs_of}
 use Rattle.first_pass_names.proofs.LinkLemmas.{each_first}
 use Rattle.first_pass_definitions.specs.Found.{BorrowsLabel, HasParts, IsWritten, AreWritten, HasTitle}
-use Rattle.first_pass_blocks.specs.Written.{IsFootnoteWritten, AreFootnotesWritten}
-use Rattle.first_pass_blocks.specs.declared.state.BlockPass.{BlockPass}
 use Rattle.first_pass_definitions.proofs.ReferenceFacts.{reference_last}
-use Rattle.first_pass_containers.proofs.Leaves.LeafLemmas.{tag_end}
 use Rattle.first_pass_completion.proofs.Extending.{told-append}
 use Rattle.first_pass_definitions.proofs.Targets.{no_bracket}
 use Rattle.first_pass_blocks.specs.declared.definition.RunEnd.TheVariants.{NextLine, Paragraph}
-use Rattle.first_pass_containers.proofs.Openings.HeadLemmas.{lines_after_it}
 
 -- The definitions from one place to another are read, and the tables have what they define. Together with them, every
 -- run from the second place on is a run from the first. This holds if no table is open.

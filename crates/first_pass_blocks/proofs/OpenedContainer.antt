@@ -2,11 +2,8 @@
 use Rattle.std.proofs.Common.{◌≡◌, ℕ, ◌<◌, length, Some, IsUtf8, refl, sym, subst, arith}
 use Rattle.first_pass_grammar.proofs.Common.{Place, line_end, place_length, IsForest, at_rest, start_at}
 use Rattle.first_pass_blocks.proofs.Common.{Source, PassState, AfterMarker, OnLine, TaskText, LineEnds, OnlyTag, InLine, IsNotBefore, ReadsTo, last_at}
-use Rattle.first_pass_blocks.proofs.Common.{source_of, source_text, state_of, tree_of}
+use Rattle.first_pass_blocks.proofs.Common.{source_of, source_text, state_of, tree_of, BlockPass, StartMatches, start_opened, after_at, IsAfterMarker, Start}
 use Rattle.first_pass_grammar.specs.Openers.{Start as ContainerStart}
-use Rattle.first_pass_containers.specs.declared.openers.Start.{Start}
-use Rattle.first_pass_blocks.specs.declared.state.BlockPass.{BlockPass}
-use Rattle.first_pass_containers.specs.Starts.{StartMatches, start_opened, after_at, IsAfterMarker}
 use Rattle.first_pass_containers.proofs.Openings.StartLemmas.{opened_start}
 use Rattle.first_pass_blocks.proofs.TriedFootnote.{may_in, IsTried}
 

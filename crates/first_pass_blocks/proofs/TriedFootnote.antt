@@ -1,14 +1,9 @@
 -- After `open_footnote` at a place: a footnote definition is open, or the search for another container begins.
 use Rattle.std.proofs.Common.{◌≡◌, ◌<◌, Bool, true, false, length, Option, None, MatchOption, IsSomeAnd, sym, subst, ap, ◌∙◌, arith}
 use Rattle.first_pass_grammar.proofs.Common.{Place, in_table, at_rest, footnote_head_at, start_at}
-use Rattle.first_pass_blocks.proofs.Common.{context_of, Source, PassState, StaysSame, TriesFootnote, InLine, IsNotBefore, FinishesNothing}
-use Rattle.first_pass_blocks.proofs.Common.{source_of, source_options, state_of, tree_of}
-use Rattle.first_pass_containers.specs.declared.openers.Start.{Start}
-use Rattle.first_pass_blocks.specs.declared.state.BlockPass.{BlockPass}
-use Rattle.first_pass_containers.specs.Positions.{may_define}
-use Rattle.first_pass_containers.specs.Starts.{StartMatches}
+use Rattle.first_pass_blocks.proofs.Common.{context_of, Source, PassState, StaysSame, TriesFootnote, InLine, IsNotBefore, FinishesNothing, source_of}
+use Rattle.first_pass_blocks.proofs.Common.{source_options, state_of, tree_of, BlockPass, StartMatches, may_define, Start, PassesTo}
 use Rattle.first_pass_kinds.specs.declared.next_front.NextFront.{NextFront}
-use Rattle.first_pass_blocks.specs.Progress.{PassesTo}
 use Rattle.first_pass_blocks.proofs.BlockRead.{passes_both, ReachesPlace, reached_still}
 
 -- whether a definition may begin at a place, from the results of the calls

@@ -1,10 +1,9 @@
 -- What a method says of the text before it holds of the text after it, which is the same.
 use Rattle.std.proofs.Common.{◌≡◌, ◌≤◌, ℕ, List, Option, Some, IfSome, IsCharBoundary, sym, ap, subst, arith}
+use Rattle.first_pass_client.proofs.Common.{MayAddAt, source_of, source_options, source_text, state_of}
 use Rattle.first_pass_open.specs.declared.source.Source.{Source}
 use Rattle.first_pass_order.specs.Ordered.{IsReadFrom}
 use Rattle.first_pass.specs.declared.state.FirstPass.{FirstPass}
-use Rattle.first_pass.specs.Adding.{MayAddAt}
-use Rattle.first_pass.specs.Views.{source_of, source_options, source_text, state_of}
 use Rattle.first_pass_client.specs.Places.{MayAdd, MayRead}
 
 -- what holds of a value that is given

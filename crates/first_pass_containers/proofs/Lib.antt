@@ -1,3 +1,4 @@
+pub mod Common
 pub mod Leaves
 pub mod Openings
 pub mod OrderSteps

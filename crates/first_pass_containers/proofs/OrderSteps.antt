@@ -1,45 +1,29 @@
 -- A state at a place of a text, and order at each step of reading a line: the line is entered, containers are opened, and
 -- a block follows them.
-use Rattle.std.proofs.Common.{◌≡◌, inl, inr, ℕ, ◌+◌, ◌<◌, ◌≤◌, Bool, true, false, List, length, drop, Some, None, IsUtf8, IsCharBoundary, refl, sym, ap}
-use Rattle.std.proofs.Common.{subst, ◌∙◌, arith, if◌then◌else◌, is_some, ◌⊎◌, [], ◌∷◌, Option, length-append, option_map}
+use Rattle.std.proofs.Common.{◌≡◌, inl, inr, ℕ, ◌+◌, ◌<◌, ◌≤◌, Bool, true, false, List, length, drop, Some, None, IsUtf8, IsCharBoundary, refl, sym, ap, subst}
+use Rattle.std.proofs.Common.{◌∙◌, arith, if◌then◌else◌, is_some, ◌⊎◌, [], ◌∷◌, Option, length-append, option_map}
 use Rattle.first_pass_grammar.proofs.Common.{cases_lt, Item, Forest, IsForest, added, at_depth, line_len, blank_len, Rest, indent, after_columns, past_quote}
-use Rattle.first_pass_grammar.proofs.Common.{place_at, line_rest, offset, line_end, line_place, Place, IsPlaceOf, line_len-within, lines_at-line}
-use Rattle.first_pass_grammar.proofs.Common.{line_is_place, place_length, columns_keep, columns_shorter, after, in_old_footnote, prefix, is_blank_rest}
-use Rattle.first_pass_grammar.proofs.Common.{all_taken, unindented, Options, Document, document, lines_from, Names, HasWholeTables, BlockQuoteKind, ItemBody}
-use Rattle.first_pass_grammar.proofs.Common.{CowIndex, task_of, task_by, task_after, after_task, node_of, IsOrderedTo}
-use Rattle.first_pass_open.specs.Path.{path_in, path_of, outer}
-use Rattle.first_pass_open.proofs.FrontLemmas.{outer-all}
-use Rattle.first_pass_grammar.proofs.Names.MoreNames.{get_front}
-use Rattle.first_pass_grammar.proofs.Sequences.PlacesKept.{quote_less}
-use Rattle.first_pass_open.proofs.PathLemmas.{open_are_in, path_in-append}
-use Rattle.first_pass_open.proofs.PlaceLemmas.{after_keeps, line_start_end, all_keep, task_keeps, option_on}
-use Rattle.first_pass_lists.specs.Closing.{top_body, is_list, list_closed, empty_item_closed, gap_tree, list_finished, blank_read, popped, state_with}
-use Rattle.first_pass_lists.specs.Closing.{is_item, may_begin_definition, empty_item_closed_by, begun, list_continued, definition_begun, footnote_begun}
-use Rattle.first_pass_lists.specs.declared.state.PassState.{PassState}
-use Rattle.first_pass_order.specs.Ordered.{IsOrderedAtBlankLine, AreNested, IsReadTo, IsReadFrom, reached, CanClose, IsOrderedAt}
-use Rattle.first_pass_containers.specs.Positions.{OrderedUpTo, LineAt, ReadsTo, line_or, OrderedIn, OrderedOn}
+use Rattle.first_pass_grammar.proofs.Common.{place_at, line_rest, offset, line_end, line_place, Place, IsPlaceOf, line_len-within, lines_at-line, line_is_place}
+use Rattle.first_pass_grammar.proofs.Common.{place_length, columns_keep, columns_shorter, after, in_old_footnote, prefix, is_blank_rest, all_taken, unindented}
+use Rattle.first_pass_grammar.proofs.Common.{Options, Document, document, lines_from, Names, HasWholeTables, BlockQuoteKind, ItemBody, CowIndex, task_of}
+use Rattle.first_pass_grammar.proofs.Common.{task_by, task_after, after_task, node_of, IsOrderedTo}
+use Rattle.first_pass_containers.proofs.Common.{path_in, path_of, outer, PassState, Container, get_front, AddsBetween, MarkerBetween, finished_none}
+use Rattle.first_pass_containers.proofs.Common.{list_finished_none, list_continued_none, item_opened, Source, BlockQuote, ready_blank_line, quote_less}
+use Rattle.first_pass_containers.proofs.Common.{IsOrderedAtBlankLine, AreNested, IsReadTo, IsReadFrom, reached, CanClose, IsOrderedAt, outer-all, title_later}
+use Rattle.first_pass_containers.proofs.Common.{after_keeps, line_start_end, all_keep, task_keeps, option_on, with_child, popped_named, KeepsState, OrderedUpTo}
+use Rattle.first_pass_containers.proofs.Common.{LineAt, ReadsTo, line_or, OrderedIn, OrderedOn, ends_here, open_are_in, path_in-append}
+use Rattle.first_pass_lists.specs.Closing.{top_body, is_list, list_closed, empty_item_closed, gap_tree, list_finished, blank_read, popped, state_with, is_item}
+use Rattle.first_pass_lists.specs.Closing.{may_begin_definition, empty_item_closed_by, begun, list_continued, definition_begun, footnote_begun}
 use Rattle.first_pass_order.proofs.Nests.{tree_closes, list_continued_settled, list_finished_outside, footnote_begun_settled, begun_settled, begun_outside}
 use Rattle.first_pass_order.proofs.Nests.{child_outside, added_outside, settled_closes, outside_closes}
 use Rattle.first_pass_order.proofs.OrderLemmas.{ordered_none, ordered_later, ordered_appended, ordered_added, ordered_begun}
-use Rattle.first_pass_order.proofs.PopOrder.{read_blank_read, read_empty_item_closed, read_popped, ordered_list_finished, ordered_list_continued}
-use Rattle.first_pass_order.proofs.PopOrder.{ordered_note}
-use Rattle.first_pass_lists.proofs.NoEmptyItem.{finished_none, list_finished_none, list_continued_none, item_opened}
-use Rattle.first_pass_open.specs.declared.source.Source.{Source}
+use Rattle.first_pass_order.proofs.PopOrder.{read_blank_read, read_empty_item_closed, read_popped, ordered_list_finished, ordered_list_continued, ordered_note}
 use Rattle.first_pass_ready.specs.State.{Ready}
-use Rattle.first_pass_ready.proofs.EnterLemmas.{ready_blank_line}
-use Rattle.first_pass_ready.proofs.OldFootnotes.{ends_here}
-use Rattle.first_pass_grammar.specs.declared.kind.Container.{Container}
 use Rattle.first_pass_order.proofs.CountLemmas.{count, popped_count}
 use Rattle.first_pass_order.proofs.FootnotesKept.{popped_notes}
-use Rattle.first_pass_order.proofs.NamedLemmas.{popped_named}
-use Rattle.first_pass_containers.specs.Entering.{KeepsState}
 use Rattle.first_pass_items.specs.declared.item.ItemBody.TheVariants.{BlockQuote as BlockQuoteBody, ListItem as ListItemBody}
-use Rattle.first_pass_grammar.specs.declared.kind.Container.TheVariants.{BlockQuote}
-use Rattle.first_pass_open.specs.OpenBlock.{with_child}
 use Rattle.first_pass_containers.specs.Starts.{after_at}
-use Rattle.first_pass_open.specs.Between.{AddsBetween, MarkerBetween}
 use Rattle.first_pass_ready.proofs.BegunLemmas.{with_open, top_opened}
-use Rattle.first_pass_order.proofs.LeftOrder.{title_later}
 use Rattle.first_pass_order.proofs.DefinitionBegun.{ordered_definition}
 
 -- A state is at a place of a text, and no item is empty.

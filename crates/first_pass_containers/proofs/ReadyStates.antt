@@ -1,22 +1,18 @@
 -- The laws on ready states: one can be completed, and already has whole tables. Other lemmas on ready states are in
 -- `first_pass_ready`.
-use Rattle.std.proofs.Common.{◌≡◌, ℕ, Bool, true, false, List, [], ◌∷◌, length, map, Option, Some, None, refl, sym, ap, ◌∙◌, subst, arith, zero}
-use Rattle.std.proofs.Common.{suc, option_and_then}
+use Rattle.std.proofs.Common.{◌≡◌, ℕ, Bool, true, false, List, [], ◌∷◌, length, map, Option, Some, None, refl, sym, ap, ◌∙◌, subst, arith, zero, suc}
+use Rattle.std.proofs.Common.{option_and_then}
 use Rattle.first_pass_grammar.proofs.Common.{same_Some, none-some, Item, ItemBody, TreeIndex, Forest, body_at, with_body_at, Place, Names, Extends, AreNamed}
-use Rattle.first_pass_grammar.proofs.Common.{Document, document, Tables, Continues, Line, Blanks, next_is_blank, NoList, Unfinished, Frame, last_of}
-use Rattle.first_pass_grammar.proofs.Common.{Completes, lines_from, InContainer, body-changed, Options, marks, ShowsNothing, AreWholeTables}
+use Rattle.first_pass_grammar.proofs.Common.{Document, document, Tables, Continues, Line, Blanks, next_is_blank, NoList, Unfinished, Frame, last_of, Completes}
+use Rattle.first_pass_grammar.proofs.Common.{lines_from, InContainer, body-changed, Options, marks, ShowsNothing, AreWholeTables}
+use Rattle.first_pass_containers.proofs.Common.{path_of, PassState, extends_none, open_path, AreAt}
 use Rattle.first_pass_grammar.specs.Completion.{CanGoOn}
-use Rattle.first_pass_grammar.proofs.Names.MoreNames.{extends_none}
 use Rattle.first_pass_exists.proofs.Completed.{line_goes_on, completion_derives}
-use Rattle.first_pass_open.specs.Path.{path_of}
-use Rattle.first_pass_lists.specs.declared.state.PassState.{PassState}
-use Rattle.first_pass_ready.specs.State.{AreOpen, ReadyAt, ReadyBeforeLine, ReadyInItem, ReadyEmpty, ReadyWith, Ready, closed_in}
-use Rattle.first_pass_ready.specs.State.{top_without_indent, frame_of, frame_at, StaysReady}
+use Rattle.first_pass_ready.specs.State.{AreOpen, ReadyAt, ReadyBeforeLine, ReadyInItem, ReadyEmpty, ReadyWith, Ready, closed_in, top_without_indent, frame_of}
+use Rattle.first_pass_ready.specs.State.{frame_at, StaysReady}
 use Rattle.first_pass_containers.specs.Completed.{CompletedAt, CompletedBeforeLine, CompletedInItem, CompletedWith, IsCompleted}
 use Rattle.first_pass_ready.proofs.ItemBodies.{item_body, item_own, item_path, without_indent_is, item_container, item_frame}
-use Rattle.first_pass_ready.proofs.OpenLemmas.{open_path}
 use Rattle.first_pass_grammar.proofs.Sequences.LinesLeft.{lines_from_at}
-use Rattle.first_pass_grammar.proofs.Sequences.PlacesKept.{AreAt}
 use Rattle.first_pass_completion.proofs.SilentNodes.{IsSilent, AreSilent, marks_modified}
 use Rattle.first_pass_order.proofs.WholeBefore.{completed_whole, whole_already}
 use Rattle.first_pass_grammar.proofs.WholeTables.WholeBlocks.{PlainFrom}

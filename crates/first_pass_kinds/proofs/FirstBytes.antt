@@ -2,21 +2,14 @@
 -- paragraph.
 use Rattle.std.proofs.Common.{◌≡◌, ℕ, suc, ◌+◌, ◌==◌, nat_lt, nat_le, ◌&&◌, not, Bool, true, false, true≢false, List, [], ◌∷◌, drop, Option, Some, None}
 use Rattle.std.proofs.Common.{is_some, if◌then◌else◌, refl, sym, ap, subst, ◌∙◌, arith, eqb-true, option_map, option_and_then}
-use Rattle.first_pass_grammar.proofs.Common.{cond_both, and_parts, or_left, or_right, nat_tests, prefix_len, or-true, space, hyphen, equals_sign}
-use Rattle.first_pass_grammar.proofs.Common.{greater_than, begins, eol_len, blank_len, at_line_end, is_white, is_plain, begins_plain, Rest}
-use Rattle.first_pass_grammar.proofs.Common.{column_of_byte, next_column, after_columns, indent, past_bytes, past_quote_byte, past_quote, line_rest}
-use Rattle.first_pass_grammar.proofs.Common.{after-none, setext_underline, list_marker, plain_begins, Context, has_columns, prefix}
-use Rattle.first_pass_grammar.proofs.Common.{after, or_shorter, front, Continued, continued, all_taken, interrupts_with, interrupts, underline_of}
-use Rattle.first_pass_items.specs.Bytes.{tab}
-use Rattle.first_pass_lines.specs.Rest.{columns_of}
+use Rattle.first_pass_grammar.proofs.Common.{cond_both, and_parts, or_left, or_right, nat_tests, prefix_len, or-true, space, hyphen, equals_sign, greater_than}
+use Rattle.first_pass_grammar.proofs.Common.{begins, eol_len, blank_len, at_line_end, is_white, is_plain, begins_plain, Rest, column_of_byte, next_column}
+use Rattle.first_pass_grammar.proofs.Common.{after_columns, indent, past_bytes, past_quote_byte, past_quote, line_rest, after-none, setext_underline}
+use Rattle.first_pass_grammar.proofs.Common.{list_marker, plain_begins, Context, has_columns, prefix, after, or_shorter, front, Continued, continued, all_taken}
+use Rattle.first_pass_grammar.proofs.Common.{interrupts_with, interrupts, underline_of}
+use Rattle.first_pass_kinds.proofs.Common.{plain_blank, Container, item_interrupts, More, NotText, tab, isnt, columns_of, next_line_of}
 use Rattle.first_pass_scan.specs.Markers.{is_bullet, bullet_marker, listitem, after_marker, content_indent}
-use Rattle.first_pass_lines.proofs.LineFacts.{isnt}
-use Rattle.first_pass_scan.proofs.PlainFacts.{plain_blank}
-use Rattle.first_pass_grammar.specs.declared.kind.Container.{Container}
 use Rattle.first_pass_grammar.specs.declared.kind.Container.TheVariants.{BlockQuote, ListItem, FootnoteDefinition, Definition}
-use Rattle.first_pass_grammar.specs.Kinds.{item_interrupts}
-use Rattle.first_pass_kinds.specs.declared.interrupt.NextLine.TheVariants.{More, NotText}
-use Rattle.first_pass_kinds.specs.NextLines.{next_line_of}
 use Rattle.first_pass_kinds.proofs.PlainLines.{no_underline, plain_more}
 
 -- neither a column nor a block quote marker is here

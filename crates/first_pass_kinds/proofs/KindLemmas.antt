@@ -5,10 +5,7 @@ use Rattle.first_pass_grammar.proofs.Common.{nat_tests, Options, has, HeadingLev
 use Rattle.first_pass_grammar.proofs.Common.{offset, IsPlaceOf, BeginsTagLine, Kind, Blank, IndentedCode, Metadata, HtmlToEnd, HtmlToBlank, ThematicBreak}
 use Rattle.first_pass_grammar.proofs.Common.{AtxHeading, FencedCode, LinkDefinitions, all_taken, is_blank_rest, heading_or, rule_or, fence_or, metadata_at}
 use Rattle.first_pass_grammar.proofs.Common.{begins_html_to_end, begins_html_to_blank, html_kind, first_kind, later_kind, IsKindBy, IsKind}
-use Rattle.first_pass_scan.specs.Metadata.{metadata_byte}
-use Rattle.first_pass_open.proofs.PlaceLemmas.{all_keep}
-use Rattle.first_pass_scan.proofs.MetadataFacts.{metadata_plain}
-use Rattle.first_pass_grammar.specs.Kinds.{Paragraph, metadata_or}
+use Rattle.first_pass_kinds.proofs.Common.{Paragraph, metadata_or, all_keep, metadata_byte, metadata_plain}
 use Rattle.first_pass_kinds.specs.BlockStart.{kind_of, IsFoundWithCondition}
 use Rattle.first_pass_kinds.specs.declared.kinds.BlockStart.{BlockStart}
 

@@ -1,3 +1,4 @@
+pub mod Common
 pub mod KindLemmas
 pub mod PlainKinds
 mod PlainLines

@@ -7,10 +7,9 @@ use Rattle.first_pass_grammar.proofs.Common.{cases_eq, cond_both, nat_tests, lin
 use Rattle.first_pass_grammar.proofs.Common.{backquote, tilde, Options, HeadingLevel, begins, atx_level, Rest, indent, hrule_len, code_fence, list_marker}
 use Rattle.first_pass_grammar.proofs.Common.{AtxHeading, HtmlToEnd, HtmlToBlank, all_taken, is_blank_rest, metadata_at, html_kind, later_kind, IsKind}
 use Rattle.first_pass_grammar.proofs.Common.{begins_html_to_end, begins_html_to_blank, interrupts_with}
+use Rattle.first_pass_kinds.proofs.Common.{asterisk, plus_sign, underscore, isnt}
 use Rattle.std.specs.Char.{is_ascii_digit}
-use Rattle.first_pass_items.specs.Bytes.{asterisk, plus_sign, underscore}
 use Rattle.first_pass_lines.specs.Lines.{ends_signs}
-use Rattle.first_pass_lines.proofs.LineFacts.{isnt}
 use Rattle.first_pass_scan.specs.Markers.{listitem}
 use Rattle.first_pass_scan.specs.Metadata.{metadata_byte}
 use Rattle.first_pass_kinds.specs.Marks.{cannot_interrupt_by_standard, begins_no_interruption_by_standard}

@@ -1,15 +1,14 @@
 -- If the first byte of the next line rules out a delimiter row, the line before it heads no table. A line without a pipe heads none either.
-use Rattle.std.proofs.Common.{◌≡◌, ℕ, nat_le, ◌&&◌, ◌||◌, not, Bool, true, false, List, [], ◌∷◌, length, drop, Option, Some, None, if◌then◌else◌, refl, sym}
-use Rattle.std.proofs.Common.{ap, ◌∙◌, arith, option_and_then, take_while, ne_eqb}
-use Rattle.first_pass_grammar.proofs.Common.{list_any, and_parts, cond_both, not-true, or_parts, nat_tests, hyphen, colon, pipe, Alignment}
-use Rattle.first_pass_grammar.proofs.Common.{is_content, begins, line_len, line_rest, Rest, after_columns, inert_indent, head_columns, Context, after}
-use Rattle.first_pass_grammar.proofs.Common.{if_as_many, table_at, headed_table}
+use Rattle.std.proofs.Common.{◌≡◌, ℕ, nat_le, ◌&&◌, ◌||◌, not, Bool, true, false, List, [], ◌∷◌, length, drop, Option, Some, None, if◌then◌else◌, refl, sym, ap}
+use Rattle.std.proofs.Common.{◌∙◌, arith, option_and_then, take_while, ne_eqb}
+use Rattle.first_pass_grammar.proofs.Common.{list_any, and_parts, cond_both, not-true, or_parts, nat_tests, hyphen, colon, pipe, Alignment, is_content, begins}
+use Rattle.first_pass_grammar.proofs.Common.{line_len, line_rest, Rest, after_columns, inert_indent, head_columns, Context, after, if_as_many, table_at}
+use Rattle.first_pass_grammar.proofs.Common.{headed_table}
+use Rattle.first_pass_kinds.proofs.Common.{inert_after, Container}
 use Rattle.first_pass_lines.specs.Plain.{begins_inert, is_inert}
-use Rattle.first_pass_scan.proofs.PlainFacts.{inert_after}
 use Rattle.first_pass_scan.specs.TableHead.{is_pipe, delimiter_row_of}
 use Rattle.first_pass_scan.proofs.DelimiterRows.{row_of-refused, row_of-some}
 use Rattle.first_pass_scan.proofs.HeaderRows.{head-unpiped}
-use Rattle.first_pass_grammar.specs.declared.kind.Container.{Container}
 use Rattle.first_pass_open.proofs.PlainLemmas.{inert_path}
 
 no_hyphen : (bs : List ℕ) → begins_inert bs ≡ true → begins hyphen bs ≡ false

@@ -2,10 +2,8 @@
 use Rattle.std.proofs.Common.{◌≡◌, inr, ℕ, zero, suc, ◌==◌, Bool, true, false, true≢false, List, [], ◌∷◌, take, None, refl, sym, ap, ◌∙◌, subst, arith}
 use Rattle.first_pass_grammar.proofs.Common.{less_than, greater_than, Options, has, begins, Rest, is_plain, begins_plain, plain_begins, BeginsTagLine}
 use Rattle.first_pass_grammar.proofs.Common.{html_kind, first_kind, later_kind, IsKindBy, IsKind, interrupts_with}
-use Rattle.first_pass_scan.proofs.PlainFacts.{plain_eol, plain_blank, plain_hrule, plain_atx, plain_fence, plain_listitem, plain_indent}
-use Rattle.first_pass_scan.proofs.MetadataFacts.{plain_metadata}
+use Rattle.first_pass_kinds.proofs.Common.{plain_eol, plain_blank, plain_hrule, plain_atx, plain_fence, plain_listitem, plain_indent, Paragraph, plain_metadata}
 use Rattle.first_pass_open.proofs.PlainLemmas.{plain_all}
-use Rattle.first_pass_grammar.specs.Kinds.{Paragraph}
 
 pub plain_interrupts : (whole : Bool) (bs : List ℕ) → begins_plain bs ≡ true → interrupts_with whole bs ≡ false
 unfolding is_plain

@@ -2,13 +2,9 @@
 -- it.
 use Rattle.std.proofs.Common.{◌≡◌, ℕ, ◌+◌, nat_lt, Bool, true, false, List, Option, None, refl, sym, ap, ◌∙◌, arith}
 use Rattle.first_pass_grammar.proofs.Common.{and-false, cond_both, hyphen, colon, equals_sign, left_bracket, pipe, is_plain, begins_plain, Rest, indent}
-use Rattle.first_pass_grammar.proofs.Common.{setext_underline, plain_begins, footnote_head, Context, front, Continued, continued, all_taken}
-use Rattle.first_pass_grammar.proofs.Common.{interrupts, underline_of}
-use Rattle.first_pass_scan.proofs.PlainFacts.{plain_eol}
-use Rattle.first_pass_grammar.specs.declared.kind.Container.{Container}
-use Rattle.first_pass_grammar.specs.Kinds.{interrupts_in, colon_ends}
-use Rattle.first_pass_kinds.specs.declared.interrupt.NextLine.TheVariants.{More}
-use Rattle.first_pass_kinds.specs.NextLines.{next_line_of}
+use Rattle.first_pass_grammar.proofs.Common.{setext_underline, plain_begins, footnote_head, Context, front, Continued, continued, all_taken, interrupts}
+use Rattle.first_pass_grammar.proofs.Common.{underline_of}
+use Rattle.first_pass_kinds.proofs.Common.{plain_eol, Container, interrupts_in, colon_ends, More, next_line_of}
 use Rattle.first_pass_kinds.proofs.PlainKinds.{plain_interrupts}
 
 plain_setext : (bs : List ℕ) → begins_plain bs ≡ true → setext_underline bs ≡ None

@@ -1,22 +1,19 @@
 -- The attribute block at the end of a heading's text.
-use Rattle.std.proofs.Common.{◌≡◌, ℕ, ◌+◌, ◌-◌, ◌≤◌, ◌<◌, Bool, true, false, List, ◌∷◌, ◌++◌, length, take, drop, get_or, [], slice_index}
-use Rattle.std.proofs.Common.{Option, Some, None, is_some, min, IsUtf8, IsCharBoundary, refl, sym, ap, subst, ◌∙◌, arith, length-append, length-drop}
-use Rattle.std.proofs.Common.{length-take, length-take-le, get_or-drop, if◌then◌else◌, slice_range, option_map, take-take, get_or-take, drop-drop}
-use Rattle.first_pass_grammar.proofs.Common.{suffix_len, option_map_or, cond_both, suffix_len-le-length, none-some, same_Some, IsCharBoundary-after_ascii}
-use Rattle.first_pass_grammar.proofs.Common.{has, left_brace, right_brace, Options, none_is, none_mapped, some_if, some_mapped, Braces, attribute_block}
+use Rattle.std.proofs.Common.{◌≡◌, ℕ, ◌+◌, ◌-◌, ◌≤◌, ◌<◌, Bool, true, false, List, ◌∷◌, ◌++◌, length, take, drop, get_or, [], slice_index, Option, Some, None}
+use Rattle.std.proofs.Common.{is_some, min, IsUtf8, IsCharBoundary, refl, sym, ap, subst, ◌∙◌, arith, length-append, length-drop, length-take, length-take-le}
+use Rattle.std.proofs.Common.{get_or-drop, if◌then◌else◌, slice_range, option_map, take-take, get_or-take, drop-drop}
+use Rattle.first_pass_grammar.proofs.Common.{suffix_len, option_map_or, cond_both, suffix_len-le-length, none-some, same_Some, IsCharBoundary-after_ascii, has}
+use Rattle.first_pass_grammar.proofs.Common.{left_brace, right_brace, Options, none_is, none_mapped, some_if, some_mapped, Braces, attribute_block}
 use Rattle.first_pass_grammar.proofs.Common.{attributes_of, Names, NamesAttributes, HeadingIndex, heading_attribute_block, heading_attributes_of}
-use Rattle.first_pass_grammar.proofs.Common.{before_attributes, chain_end, chain_bytes, kept_before, Item, is_white, cut, chained, Forest, appended}
-use Rattle.first_pass_grammar.proofs.Common.{item_at, open_place, cut_tokens, cut_siblings, TreeIndex}
+use Rattle.first_pass_grammar.proofs.Common.{before_attributes, chain_end, chain_bytes, kept_before, Item, is_white, cut, chained, Forest, appended, item_at}
+use Rattle.first_pass_grammar.proofs.Common.{open_place, cut_tokens, cut_siblings, TreeIndex}
+use Rattle.first_pass_leaves.proofs.Common.{get_last, chained-current, take_min, cut_chain}
 use Rattle.std.proofs.lemmas.Slice.{between_is}
-use Rattle.std.proofs.lemmas.List.{take_min}
 use Rattle.first_pass_items.specs.OptionWords.{heading_attributes}
 use Rattle.std.proofs.Math.Seq.{get_or-append_seam}
 use Rattle.first_pass_attributes.specs.AttributeBlocks.{length_before_block, between_braces, inside_block}
 use Rattle.first_pass_attributes.proofs.BlockFacts.{block-found, block-within}
-use Rattle.first_pass_tokens.proofs.ChainLemmas.{chained-current}
 use Rattle.first_pass_tree.proofs.Cuts.{cut-length}
-use Rattle.first_pass_open.proofs.PathLemmas.{get_last}
-use Rattle.first_pass_leaves.specs.CutTexts.{cut_chain}
 
 -- a text whose end is not after its start is empty
 pub none_between : (text : List ℕ) (start to : ℕ) → to ≤ start → slice_range text start to ≡ []

@@ -2,12 +2,9 @@
 use Rattle.std.proofs.Common.{◌≡◌, ℕ, zero, suc, ◌+◌, ◌-◌, ◌≤◌, min, List, [], ◌∷◌, ◌++◌, length, drop, None, sym, ap, subst, ◌∙◌, arith, length-append}
 use Rattle.first_pass_grammar.proofs.Common.{cases_lt, Item, TreeIndex, Forest, appended, pushed, added, at_depth, Rest, line_rest, after, chained, leaves}
 use Rattle.first_pass_grammar.proofs.Common.{chained-spine, chained-nodes}
+use Rattle.first_pass_leaves.proofs.Common.{container_at, with_container, path_in, outer, AreIn, AreIn-more, path_in-append, outer-all, IsFrontAt}
 use Rattle.std.proofs.Math.Nat.{min-eq_left, min-eq_right, min-le_right}
-use Rattle.first_pass_open.specs.Path.{container_at, with_container, path_in, outer}
 use Rattle.first_pass_open.specs.declared.source.Source.{Source}
-use Rattle.first_pass_open.proofs.PathLemmas.{AreIn, AreIn-more, path_in-append}
-use Rattle.first_pass_open.proofs.FrontLemmas.{outer-all}
-use Rattle.first_pass_kinds.specs.Fronts.{IsFrontAt}
 
 AreIn-drop : (n k : ℕ) (spine : List TreeIndex) → AreIn n spine → AreIn n (drop k spine)
 AreIn-drop n zero spine a = a

@@ -5,17 +5,14 @@ use Rattle.first_pass_grammar.proofs.Common.{Item, Options, Forest, added, line_
 use Rattle.first_pass_grammar.proofs.Common.{JoinsNone, with_tokens-chained, Names, Extends, Document, document, block_with, Ranges, IsRawLine, AreRawLines}
 use Rattle.first_pass_grammar.proofs.Common.{Extent, with_line, extent_to, Verdict, extent_by, extent, judged, lines_from, ItemBody, line_len-within}
 use Rattle.first_pass_grammar.proofs.Common.{lines_at-line, lines_at-end, line_is_place, line_end_boundary, at_rest, after}
-use Rattle.first_pass_grammar.specs.declared.kind.Container.{Container}
-use Rattle.first_pass_leaves.specs.RawBlocks.{said, AppendsRaw, AppendsLines, after_line_at, extent_from}
-use Rattle.first_pass_open.specs.Path.{path_of, container_of, with_container, has_quote_after}
-use Rattle.first_pass_open.specs.OpenBlock.{begun_item, opened_block, closed_by}
-use Rattle.first_pass_open.proofs.BlockLemmas.{still_open, block_closed}
-use Rattle.first_pass_open.proofs.PathLemmas.{AreIn, path_of-chained, path_of-opened}
-use Rattle.first_pass_open.proofs.QuoteLemmas.{quote_after-chained}
+use Rattle.first_pass_leaves.proofs.Common.{path_of, container_of, with_container, has_quote_after, begun_item, opened_block, closed_by, AreIn, path_of-chained}
+use Rattle.first_pass_leaves.proofs.Common.{path_of-opened, still_open, block_closed, Container, said, AppendsRaw, after_line_at, extent_from, after_keeps}
+use Rattle.first_pass_leaves.proofs.Common.{line_start_end, quote_after-chained}
+use Rattle.first_pass_leaves.specs.RawBlocks.{AppendsLines}
 use Rattle.first_pass_grammar.specs.Extents as Judged
 use Rattle.first_pass_leaves.specs.declared.verdict.Verdict.{Verdict as Answer}
 use Rattle.first_pass_leaves.specs.declared.verdict.Verdict.TheVariants.{GoesOn, IsLast, Closes, Stops}
-use Rattle.first_pass_open.proofs.PlaceLemmas.{after_keeps, line_start_end, place_end}
+use Rattle.first_pass_open.proofs.PlaceLemmas.{place_end}
 use Rattle.first_pass_names.proofs.NameLemmas.{extends_both}
 
 -- The raw lines of an extent are read up to those of its rest. The chain so far, followed by the lines of the rest,

@@ -1,21 +1,15 @@
 -- The closing fence, the info string and the lines of a fenced code block.
-use Rattle.std.proofs.Common.{◌≡◌, ℕ, ◌+◌, ◌-◌, ◌<◌, ◌≤◌, ◌==◌, not, Bool, nat_le, true, false, List, length, take, drop, Option, Some, None}
-use Rattle.std.proofs.Common.{is_some, slice_index_or, not-suc-le-zero, ◌∷◌, [], IsUtf8, IsCharBoundary, if◌then◌else◌, refl, sym, ap, subst, ◌∙◌, arith}
-use Rattle.std.proofs.Common.{length-drop, length-take-le, drop-drop, option_map, eqb-true, leb-false, lt-ltb, take-take}
-use Rattle.first_pass_grammar.proofs.Common.{prefix_len, suffix_len, cond_both, cond-true, lt-leb, none-some, cond_some, ascii_end}
-use Rattle.first_pass_grammar.proofs.Common.{CowIndex, Item, FencedCodeBlock, Forest, is_content, is_white, is_white_or_line_end, line_len, run_len}
-use Rattle.first_pass_grammar.proofs.Common.{code_fence, closing_fence_len, Rest, indent, next_column, after_columns, line_place, place_at, offset}
-use Rattle.first_pass_grammar.proofs.Common.{IsPlaceOf, line_len-fits, all_columns_up_to, line_is_place, white_keeps, Names, Extends, unindented}
-use Rattle.first_pass_grammar.proofs.Common.{Document, block_with, fence_judge, trimmed, info_string, NamesInfo, IsFencedCode, Extent, range_text}
-use Rattle.first_pass_lines.proofs.PlaceFacts.{prefix_keeps}
-use Rattle.first_pass_tokens.proofs.OrderLemmas.{trimmed_boundary}
-use Rattle.first_pass_grammar.specs.CodeBlocks.{closing_fence_end}
-use Rattle.first_pass_open.specs.OpenBlock.{closed_by}
-use Rattle.first_pass_open.specs.Path.{path_of}
-use Rattle.first_pass_leaves.specs.RawBlocks.{AddsRaw, fenced_after}
+use Rattle.std.proofs.Common.{◌≡◌, ℕ, ◌+◌, ◌-◌, ◌<◌, ◌≤◌, ◌==◌, not, Bool, nat_le, true, false, List, length, take, drop, Option, Some, None, is_some}
+use Rattle.std.proofs.Common.{slice_index_or, not-suc-le-zero, ◌∷◌, [], IsUtf8, IsCharBoundary, if◌then◌else◌, refl, sym, ap, subst, ◌∙◌, arith, length-drop}
+use Rattle.std.proofs.Common.{length-take-le, drop-drop, option_map, eqb-true, leb-false, lt-ltb, take-take}
+use Rattle.first_pass_grammar.proofs.Common.{prefix_len, suffix_len, cond_both, cond-true, lt-leb, none-some, cond_some, ascii_end, CowIndex, Item}
+use Rattle.first_pass_grammar.proofs.Common.{FencedCodeBlock, Forest, is_content, is_white, is_white_or_line_end, line_len, run_len, code_fence}
+use Rattle.first_pass_grammar.proofs.Common.{closing_fence_len, Rest, indent, next_column, after_columns, line_place, place_at, offset, IsPlaceOf}
+use Rattle.first_pass_grammar.proofs.Common.{line_len-fits, all_columns_up_to, line_is_place, white_keeps, Names, Extends, unindented, Document, block_with}
+use Rattle.first_pass_grammar.proofs.Common.{fence_judge, trimmed, info_string, NamesInfo, IsFencedCode, Extent, range_text}
+use Rattle.first_pass_leaves.proofs.Common.{path_of, closed_by, AddsRaw, fenced_after, prefix_keeps, trimmed_boundary, all_keep, closing_fence_end}
 use Rattle.first_pass_leaves.proofs.ExtentLemmas.{Filled, OpenedAt, lines_of, block_done}
 use Rattle.first_pass_open.proofs.PlainLemmas.{none_few, none_all}
-use Rattle.first_pass_open.proofs.PlaceLemmas.{all_keep}
 
 -- a place after the columns of a line: fewer than four are all taken when up to four are
 pub indented_place : (text : List ℕ) (start n : ℕ) (r s : Rest) (four : Bool) → IsUtf8 text → IsPlaceOf text (place_at start r)

@@ -1,22 +1,18 @@
 -- The text of a heading.
-use Rattle.std.proofs.Common.{◌≡◌, ℕ, ◌+◌, ◌-◌, ◌≤◌, ◌==◌, Bool, true, false, List, [], length, take, drop, slice_get, Option, Some, None, refl, sym, inl}
-use Rattle.std.proofs.Common.{inr, IfSome, length-drop, length-take, length-take-le, ap, subst, ◌∙◌, arith, true≢false, slice_range, drop-drop, option_map}
+use Rattle.std.proofs.Common.{◌≡◌, ℕ, ◌+◌, ◌-◌, ◌≤◌, ◌==◌, Bool, true, false, List, [], length, take, drop, slice_get, Option, Some, None, refl, sym, inl, inr}
+use Rattle.std.proofs.Common.{IfSome, length-drop, length-take, length-take-le, ap, subst, ◌∙◌, arith, true≢false, slice_range, drop-drop, option_map}
 use Rattle.std.proofs.Common.{unwrap_or}
 use Rattle.first_pass_grammar.proofs.Common.{cases_lt, nat_tests, prefix_len, prefix_len-le-length, prefix_len_passes, prefix_len_stops, Item, HeadingLevel}
 use Rattle.first_pass_grammar.proofs.Common.{TreeIndex, Forest, open_place, cut_siblings, is_content, is_white, line_len, level_number, atx_level, line_place}
 use Rattle.first_pass_grammar.proofs.Common.{atx_level-signs, bytes_line_end, add_tokens, close_break, cut, Inline, text_upto, chained, AppendsLine}
 use Rattle.first_pass_grammar.proofs.Common.{with_tokens-chained, joins_none-fresh, chained-spine, heading_attribute_block, before_attributes}
 use Rattle.first_pass_grammar.proofs.Common.{heading_attributes_of, text_before_attributes, CowStr, Names, NamesAttributes, Extends, line_more, MathBraces}
-use Rattle.first_pass_grammar.proofs.Common.{no_braces, Document, document, kept_len, heading_chain, heading_text_at, IsHeading, HeadingIndex, Options}
-use Rattle.first_pass_grammar.proofs.Common.{Braces, option_map_or}
-use Rattle.first_pass_tree.specs.Forest.{childless}
-use Rattle.first_pass_lines.specs.Lines.{is_number_sign}
-use Rattle.first_pass_tokens.proofs.ChainLemmas.{childless-chained, cut_siblings-chained}
+use Rattle.first_pass_grammar.proofs.Common.{no_braces, Document, document, kept_len, heading_chain, heading_text_at, IsHeading, HeadingIndex, Options, Braces}
+use Rattle.first_pass_grammar.proofs.Common.{option_map_or}
+use Rattle.first_pass_leaves.proofs.Common.{IsJustPushed, line_end_at, with_closed_break, AppendsHeading, attribute_place, childless-chained}
+use Rattle.first_pass_leaves.proofs.Common.{cut_siblings-chained, childless, is_number_sign}
 use Rattle.first_pass_leaves.proofs.AttributeEnds.{content_read, before_none, length_some, braces_within}
 use Rattle.first_pass_leaves.specs.declared.heading.AttributeBlock.{AttributeBlock}
-use Rattle.first_pass_open.specs.Between.{line_end_at}
-use Rattle.first_pass_leaves.specs.Appends.{with_closed_break, AppendsHeading, attribute_place}
-use Rattle.first_pass_open.specs.OpenBlock.{IsJustPushed}
 use Rattle.first_pass_leaves.proofs.ParagraphLemmas.{with_closed_break-chained}
 
 pub chain_none : (kept start : ℕ) (chain : List Item) → kept ≡ 0 → heading_chain kept start chain ≡ []

@@ -1,13 +1,13 @@
 -- The lines of an HTML block, and its end.
-use Rattle.std.proofs.Common.{◌≡◌, ◌⊎◌, inl, inr, ℕ, zero, suc, ◌+◌, ◌-◌, ◌||◌, Bool, true, false, List, [], ◌∷◌, ◌++◌, length, take, drop, if◌then◌else◌}
-use Rattle.std.proofs.Common.{None, IsSome, slice_get, refl, sym, ap, subst, ◌∙◌, arith, append_assoc, Decides, MatchBool, slice_range, take-append-drop}
-use Rattle.std.proofs.Common.{append-nil}
+use Rattle.std.proofs.Common.{◌≡◌, ◌⊎◌, inl, inr, ℕ, zero, suc, ◌+◌, ◌-◌, ◌||◌, Bool, true, false, List, [], ◌∷◌, ◌++◌, length, take, drop, if◌then◌else◌, None}
+use Rattle.std.proofs.Common.{IsSome, slice_get, refl, sym, ap, subst, ◌∙◌, arith, append_assoc, Decides, MatchBool, slice_range, take-append-drop, append-nil}
 use Rattle.first_pass_grammar.proofs.Common.{cond_both, take-append_seam, Item, HtmlBlock, Options, Forest, is_text, appended, BlockEnd, line_len, Place}
-use Rattle.first_pass_grammar.proofs.Common.{offset, line_end, IsPlaceOf, place_length, add_token, add_tokens, with_tokens, chained, JoinsNone}
-use Rattle.first_pass_grammar.proofs.Common.{chained-append, joins_none-fresh, Names, Extends, Document, document, block_with, AreColumns}
-use Rattle.first_pass_grammar.proofs.Common.{range_html, raw_items, IsRawLine, AreRawLines, Extent, with_line, extent_to, GoesOn, IsLast, extent_by}
-use Rattle.first_pass_grammar.proofs.Common.{holds_end, tag_judge, blank_judge, IsHtml, lines_from}
-use Rattle.std.specs.Bool.{one_answer}
+use Rattle.first_pass_grammar.proofs.Common.{offset, line_end, IsPlaceOf, place_length, add_token, add_tokens, with_tokens, chained, JoinsNone, chained-append}
+use Rattle.first_pass_grammar.proofs.Common.{joins_none-fresh, Names, Extends, Document, document, block_with, AreColumns, range_html, raw_items, IsRawLine}
+use Rattle.first_pass_grammar.proofs.Common.{AreRawLines, Extent, with_line, extent_to, GoesOn, IsLast, extent_by, holds_end, tag_judge, blank_judge, IsHtml}
+use Rattle.first_pass_grammar.proofs.Common.{lines_from}
+use Rattle.first_pass_leaves.proofs.Common.{path_of, closed_by, opened_block, AreIn, with_token-plain, joins_none-appended, still_open, IsPlaceAt, AppendsRaw}
+use Rattle.first_pass_leaves.proofs.Common.{AddsRaw, after_line_at, extent_from, html_to_end, html_to_blank, line_of, one_answer, is_empty, owing}
 use Rattle.std.specs.Str.Iter.{HasSubslice}
 use Rattle.std.specs.Str.Pattern.{FindsText, HasMatch}
 use Rattle.std.proofs.lemmas.Bool.Decides.{Decides-like, Decides-or}
@@ -15,15 +15,9 @@ use Rattle.std.proofs.lemmas.Slice.Eq.{bytes_eq-Decides}
 use Rattle.std.proofs.lemmas.Str.Pattern.{contains_text}
 use Rattle.first_pass_html.specs.Ends.{AtRawEndTag, AtText, holds_raw_end_tag}
 use Rattle.first_pass_html.specs.Starts.{begins_with}
-use Rattle.first_pass_lines.specs.Places.{line_of}
-use Rattle.first_pass_tokens.proofs.ChainLemmas.{with_token-plain, joins_none-appended}
-use Rattle.first_pass_grammar.specs.HtmlBlocks.{holds, is_empty, owing}
+use Rattle.first_pass_grammar.specs.HtmlBlocks.{holds}
 use Rattle.first_pass_names.proofs.NameLemmas.{extends_none, extends_both}
-use Rattle.first_pass_open.specs.OpenBlock.{closed_by, opened_block}
-use Rattle.first_pass_open.specs.Path.{path_of}
-use Rattle.first_pass_open.proofs.PathLemmas.{AreIn}
-use Rattle.first_pass_open.proofs.BlockLemmas.{still_open}
-use Rattle.first_pass_leaves.specs.RawBlocks.{IsPlaceAt, AppendsRaw, AppendsLines, AddsRaw, after_line_at, extent_from, html_to_end, html_to_blank}
+use Rattle.first_pass_leaves.specs.RawBlocks.{AppendsLines}
 use Rattle.first_pass_leaves.proofs.IndentedLemmas.{first_at, first_is}
 use Rattle.first_pass_leaves.proofs.ExtentLemmas.{LinesSoFar, Filled, lines_start, lines_more, lines_end, lines_path, opened_path, block_done}
 

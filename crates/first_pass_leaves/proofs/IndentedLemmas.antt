@@ -10,20 +10,13 @@ use Rattle.first_pass_grammar.proofs.Common.{text_token, touches, add_token, add
 use Rattle.first_pass_grammar.proofs.Common.{chained-spine, chained-nodes, Names, Extends, at_rest, has_columns, after, is_blank_rest, Document, document}
 use Rattle.first_pass_grammar.proofs.Common.{block_with, lines_from, ends_with_both, range_text, raw_items, IsRawLine, AreRawLines, code_by, code_lines}
 use Rattle.first_pass_grammar.proofs.Common.{without_blanks, last_end}
-use Rattle.first_pass_tree.specs.Forest.{end_of, kept_after}
-use Rattle.first_pass_tree.proofs.Blocks.{forest-eq}
+use Rattle.first_pass_leaves.proofs.Common.{path_of, has_quote_after, begun_item, closed_by, opened_block, open_are_in, path_of-chained, path_of-opened}
+use Rattle.first_pass_leaves.proofs.Common.{add_tokens-append, appended-chained, chained-length, has_leaves-chained, pushed-fresh, still_open, block_closed}
+use Rattle.first_pass_leaves.proofs.Common.{Container, AddsIndented, IsPlaceAt, code_rest, code_rest_at, after_line_at, code_after, end_of, kept_after}
+use Rattle.first_pass_leaves.proofs.Common.{after_keeps, line_start_end, read_end, unless_blank, quote_after-chained, forest-eq}
 use Rattle.first_pass_tree.proofs.Keeps.{run_stop, run_all, depth_read}
-use Rattle.first_pass_tokens.proofs.ChainLemmas.{add_tokens-append, appended-chained, chained-length, has_leaves-chained, pushed-fresh}
-use Rattle.first_pass_grammar.specs.declared.kind.Container.{Container}
-use Rattle.first_pass_grammar.specs.CodeBlocks.{unless_blank, last_is_blank}
+use Rattle.first_pass_grammar.specs.CodeBlocks.{last_is_blank}
 use Rattle.first_pass_leaves.specs.declared.indented_code.Kept.{Kept}
-use Rattle.first_pass_open.specs.OpenBlock.{begun_item, closed_by, opened_block}
-use Rattle.first_pass_open.specs.Path.{path_of, has_quote_after}
-use Rattle.first_pass_leaves.specs.RawBlocks.{AddsIndented, IsPlaceAt, code_rest, code_rest_at, after_line_at, code_after}
-use Rattle.first_pass_open.proofs.BlockLemmas.{still_open, block_closed}
-use Rattle.first_pass_open.proofs.PathLemmas.{open_are_in, path_of-chained, path_of-opened}
-use Rattle.first_pass_open.proofs.QuoteLemmas.{quote_after-chained}
-use Rattle.first_pass_open.proofs.PlaceLemmas.{after_keeps, line_start_end, read_end}
 use Rattle.first_pass_names.proofs.NameLemmas.{extends_none, extends_both}
 use Rattle.first_pass_leaves.proofs.ExtentLemmas.{LineAppended, line_under, first_read}
 

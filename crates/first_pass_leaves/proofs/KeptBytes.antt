@@ -3,9 +3,7 @@ use Rattle.std.proofs.Common.{◌≡◌, inl, inr, ℕ, zero, suc, ◌+◌, ◌-
 use Rattle.std.proofs.Common.{sym, ap, ◌∙◌, arith, length-take-le, if◌then◌else◌, ltb-false, true≢false, take_all, take-take}
 use Rattle.first_pass_grammar.proofs.Common.{suffix_len, cases_Bool, cases_lt, cond_both, cond-true, cond-false, and_parts, nat_tests, suffix_len-le-length}
 use Rattle.first_pass_grammar.proofs.Common.{space, number_sign, is_space_or_line_end, kept_len}
-use Rattle.std.proofs.lemmas.Bool.{and_cases}
-use Rattle.std.proofs.lemmas.List.Sums.{suffix_len-take_yes, suffix_len-take_no}
-use Rattle.first_pass_grammar.specs.Leaves.{without_closing}
+use Rattle.first_pass_leaves.proofs.Common.{and_cases, suffix_len-take_yes, suffix_len-take_no, without_closing}
 
 pub suffix_all : (p : ℕ → Bool) (xs : List ℕ) → suffix_len p (take (length xs) xs) ≡ suffix_len p xs
 suffix_all p xs = ap (suffix_len p) (take_all (length xs) xs (omega arith))

@@ -1,3 +1,4 @@
+pub mod Common
 pub mod ExtentLemmas
 pub mod FencedLemmas
 pub mod HtmlLemmas

@@ -2,10 +2,8 @@
 use Rattle.std.proofs.Common.{◌≡◌, ℕ, refl, ap, ◌∙◌}
 use Rattle.first_pass_grammar.proofs.Common.{Item, MetadataBlock, Forest, added, Document, block_with, range_text, Extent, metadata_judge, metadata_kind}
 use Rattle.first_pass_grammar.proofs.Common.{IsMetadata}
+use Rattle.first_pass_leaves.proofs.Common.{path_of, closed_by, AddsRaw, metadata_after}
 use Rattle.first_pass_items.specs.declared.item.MetadataBlockKind.{MetadataBlockKind}
-use Rattle.first_pass_open.specs.OpenBlock.{closed_by}
-use Rattle.first_pass_open.specs.Path.{path_of}
-use Rattle.first_pass_leaves.specs.RawBlocks.{AddsRaw, metadata_after}
 use Rattle.first_pass_leaves.proofs.ExtentLemmas.{Filled, OpenedAt, lines_of, block_done}
 
 -- A metadata block with its lines is added.

@@ -8,25 +8,17 @@ use Rattle.first_pass_grammar.proofs.Common.{atx_level, Place, IsPlaceOf, offset
 use Rattle.first_pass_grammar.proofs.Common.{atx_level-signs, add_tokens, close_break, cut, AreInOrder, bytes_closed, order_bound, order_from, order_to}
 use Rattle.first_pass_grammar.proofs.Common.{order_adds, line_in_order, EscapesStand, heading_attribute_block, before_attributes, text_before_attributes}
 use Rattle.first_pass_grammar.proofs.Common.{Document, is_space_or_line_end, kept_len, heading_chain, heading_text_at, heading_block, line_bytes, rule_block}
-use Rattle.first_pass_grammar.proofs.Common.{IsHeading, Braces, space, left_brace, HeadingIndex, Inline, option_map_or}
-use Rattle.first_pass_grammar.proofs.Common.{IsCharBoundary-before_ascii, within_top}
-use Rattle.std.proofs.lemmas.Bool.{eqb-false, or_cases}
+use Rattle.first_pass_grammar.proofs.Common.{IsHeading, Braces, space, left_brace, HeadingIndex, Inline, option_map_or, IsCharBoundary-before_ascii, within_top}
+use Rattle.first_pass_leaves.proofs.Common.{line_end_at, AddsBetween, AddsHeading, last_of_line, signs_keep, closed_line_in_order, suffix_first, line_start_end}
+use Rattle.first_pass_leaves.proofs.Common.{moved_bytes, eqb-false, or_cases, is_number_sign, few_in_order, bytes_adds, line_has_bytes, cut_few, block_fits}
 use Rattle.first_pass_items.specs.declared.item.ItemBody.TheVariants.{Heading as HeadingBody}
-use Rattle.first_pass_lines.specs.Lines.{is_number_sign}
-use Rattle.first_pass_lines.specs.Places.{moved_bytes}
-use Rattle.first_pass_lines.proofs.PlaceFacts.{last_of_line, signs_keep}
-use Rattle.first_pass_tokens.proofs.BytesLemmas.{few_in_order, bytes_adds, line_has_bytes, cut_few}
 use Rattle.first_pass_tokens.proofs.LineLemmas.{ends_line as line_ends}
-use Rattle.first_pass_tokens.proofs.OrderLemmas.{closed_line_in_order, suffix_first}
 use Rattle.first_pass_tokens.proofs.Escapes.{cut_escaped, escapes_adds, escapes_closed, line_escapes}
 use Rattle.first_pass_grammar.proofs.Names.MoreNames.{extends_none}
 use Rattle.first_pass_leaves.proofs.KeptBytes.{run_none, space_aside, suffix_all, kept_counted}
 use Rattle.first_pass_leaves.proofs.AttributeEnds.{before_none, braces_within, opens_with}
 use Rattle.first_pass_leaves.proofs.TextFronts.{front_len, front_utf8, place_in_front, order_in_text}
-use Rattle.first_pass_grammar.proofs.Order.Orders.{block_fits}
-use Rattle.first_pass_leaves.specs.Appends.{AddsHeading}
-use Rattle.first_pass_open.specs.Between.{line_end_at, AddsBetween}
-use Rattle.first_pass_open.proofs.PlaceLemmas.{place_end, line_start_end}
+use Rattle.first_pass_open.proofs.PlaceLemmas.{place_end}
 
 -- the run of bytes that pass at the end of a front of a list: it is empty, or its first byte passes
 run_first : (p : ℕ → Bool) (xs : List ℕ) (n : ℕ) → n ≤ length xs → (let size : ℕ = suffix_len p (take n xs) in

@@ -6,17 +6,11 @@ use Rattle.first_pass_grammar.proofs.Common.{lines_at-end, line_len-within, star
 use Rattle.first_pass_grammar.proofs.Common.{text_end, add_tokens, close_break, cut, AreInOrder, bytes_closed, EscapesStand, line_in_order, order_to}
 use Rattle.first_pass_grammar.proofs.Common.{order_from, order_adds, at_rest, front, unindented, Document, content_at, add_break, TextLines, text_lines}
 use Rattle.first_pass_grammar.proofs.Common.{AreTextLines, lines_from, chain_end, ItemBody, Text}
-use Rattle.first_pass_lines.proofs.LineFacts.{first_line}
+use Rattle.first_pass_leaves.proofs.Common.{line_end_at, Container, StandsAfter, LineInOrder, order_append, order_closed, text_place, bytes_adds, bytes_append}
+use Rattle.first_pass_leaves.proofs.Common.{line_has_bytes, first_line, ends_line, HaveBytes}
 use Rattle.first_pass_tokens.specs.LineTokens.{is_break}
-use Rattle.first_pass_tokens.proofs.InOrder.{HaveBytes}
-use Rattle.first_pass_tokens.proofs.BytesLemmas.{bytes_adds, bytes_append, line_has_bytes}
 use Rattle.first_pass_tokens.proofs.Escapes.{escapes_adds, escapes_append, line_escapes, cut_escaped, cut_has_bytes}
-use Rattle.first_pass_tokens.proofs.LineLemmas.{ends_line}
-use Rattle.first_pass_tokens.proofs.OrderLemmas.{StandsAfter, LineInOrder, order_append, order_closed}
-use Rattle.first_pass_grammar.specs.declared.kind.Container.{Container}
-use Rattle.first_pass_open.specs.Between.{line_end_at}
 use Rattle.first_pass_leaves.proofs.ParagraphLemmas.{line_end-text}
-use Rattle.first_pass_open.proofs.PlaceLemmas.{text_place}
 
 -- A chain in order ends within its bounds, at a character boundary.
 pub chain_end_place : (text : List ℕ) (from to : ℕ) (chain : List Item) → AreInOrder text from to chain → IsCharBoundary text from

@@ -1,23 +1,18 @@
 -- The block of a paragraph or of a setext heading is between two offsets in order.
-use Rattle.std.proofs.Common.{◌≡◌, inl, inr, ℕ, ◌+◌, ◌-◌, ◌*◌, ◌<◌, ◌≤◌, suc, Bool, true, false, List, [], ◌∷◌, ◌++◌, length, drop, Option, Some, None}
-use Rattle.std.proofs.Common.{IsUtf8, IsCharBoundary, refl, sym, ap, subst, ◌∙◌, arith, MatchOption, slice_index, ◌==◌, get_or-drop, append-nil}
-use Rattle.std.proofs.Common.{get_or-take, le-ltb, slice_range}
+use Rattle.std.proofs.Common.{◌≡◌, inl, inr, ℕ, ◌+◌, ◌-◌, ◌*◌, ◌<◌, ◌≤◌, suc, Bool, true, false, List, [], ◌∷◌, ◌++◌, length, drop, Option, Some, None, IsUtf8}
+use Rattle.std.proofs.Common.{IsCharBoundary, refl, sym, ap, subst, ◌∙◌, arith, MatchOption, slice_index, ◌==◌, get_or-drop, append-nil, get_or-take, le-ltb}
+use Rattle.std.proofs.Common.{slice_range}
 use Rattle.first_pass_grammar.proofs.Common.{cases_lt, false≢true, cond-true, cond-false, and_left, Item, Forest, is_text, is_escaped, Place, start_of}
 use Rattle.first_pass_grammar.proofs.Common.{start_of-lines, close_break, cut, AreInOrder, bytes_closed, order_bound, order_to, Document, marker_items}
-use Rattle.first_pass_grammar.proofs.Common.{TextLines, block_with, lines_from, counted_nodes, is_task_marker, Ranged, Empty, extent_of, extents, laid}
-use Rattle.first_pass_grammar.proofs.Common.{Within, InItem, below, Fits, FitsBetween, IsBetween, within_top, ItemBody, TaskListMarker}
-use Rattle.first_pass_grammar.proofs.Common.{HeadingLevel, underline_first, plain_text, text_children, by_backslash, heading_bytes, heading_children}
-use Rattle.first_pass_grammar.proofs.Common.{IsUnderlined, Taken, taking, nat_tests, IsCharBoundary-before_ascii, left_brace, ascii_end, Options}
-use Rattle.first_pass_grammar.proofs.Common.{Braces, heading_attribute_block, chain_end, kept_before}
-use Rattle.first_pass_tokens.proofs.InOrder.{HaveBytes}
-use Rattle.first_pass_tokens.proofs.BytesLemmas.{few_in_order}
-use Rattle.first_pass_tokens.proofs.OrderLemmas.{order_closed, suffix_first}
-use Rattle.first_pass_grammar.proofs.Count.CountedNodes.{own_at_most}
+use Rattle.first_pass_grammar.proofs.Common.{TextLines, block_with, lines_from, counted_nodes, is_task_marker, Ranged, Empty, extent_of, extents, laid, Within}
+use Rattle.first_pass_grammar.proofs.Common.{InItem, below, Fits, FitsBetween, IsBetween, within_top, ItemBody, TaskListMarker, HeadingLevel, underline_first}
+use Rattle.first_pass_grammar.proofs.Common.{plain_text, text_children, by_backslash, heading_bytes, heading_children, IsUnderlined, Taken, taking, nat_tests}
+use Rattle.first_pass_grammar.proofs.Common.{IsCharBoundary-before_ascii, left_brace, ascii_end, Options, Braces, heading_attribute_block, chain_end}
+use Rattle.first_pass_grammar.proofs.Common.{kept_before}
+use Rattle.first_pass_leaves.proofs.Common.{path_of, AddsBetween, MarkerIsInItem, MarkerBetween, AddsPlainText, order_closed, suffix_first, few_in_order}
+use Rattle.first_pass_leaves.proofs.Common.{length-block, row_of-laid, row_of-fits, HaveBytes, own_at_most}
 use Rattle.first_pass_grammar.specs.Order.{Node}
-use Rattle.first_pass_leaves.specs.Appends.{AddsPlainText}
-use Rattle.first_pass_grammar.proofs.Order.Orders.{length-block, row_of, row_of-laid, row_of-fits}
-use Rattle.first_pass_open.specs.Between.{AddsBetween, MarkerIsInItem, MarkerBetween}
-use Rattle.first_pass_open.specs.Path.{path_of}
+use Rattle.first_pass_grammar.proofs.Order.Orders.{row_of}
 use Rattle.first_pass_items.specs.declared.item.ItemBody.TheVariants.{Paragraph as ParagraphBody, Heading as HeadingBody}
 use Rattle.first_pass_grammar.proofs.Names.MoreNames.{extends_none}
 use Rattle.first_pass_leaves.proofs.AttributeEnds.{length_between, braces_within, opens_with}

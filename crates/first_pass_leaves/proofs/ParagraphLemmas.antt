@@ -5,23 +5,17 @@ use Rattle.first_pass_grammar.proofs.Common.{cases_lt, false≢true, cond-false,
 use Rattle.first_pass_grammar.proofs.Common.{pushed, is_text, TreeIndex, line_len, offset, line_rest, line_place, place_at, IsPlaceOf, lines_at-line}
 use Rattle.first_pass_grammar.proofs.Common.{lines_at-end, AreLineTokens, EndsLine, Spot, spot, add_token, add_tokens, close_break, chained, with_tokens}
 use Rattle.first_pass_grammar.proofs.Common.{JoinsNone, AppendsLine, add_text-some, with_tokens-chained, Context, context, front, unindented, Continued}
-use Rattle.first_pass_grammar.proofs.Common.{interrupts, underline_of, Names, Extends, line_more, MathBraces, no_braces, Document, document, around}
-use Rattle.first_pass_grammar.proofs.Common.{content_at, marker_items, add_break, TextLines, text_lines, AreTextLines, lines_from, HeadingLevel}
-use Rattle.first_pass_grammar.proofs.Common.{underline_first, setext_underline, none-some}
-use Rattle.first_pass_grammar.specs.declared.kind.Container.{Container}
-use Rattle.first_pass_tokens.proofs.ChainLemmas.{with_text-chained, appended-chained}
+use Rattle.first_pass_grammar.proofs.Common.{interrupts, underline_of, Names, Extends, line_more, MathBraces, no_braces, Document, document, around, content_at}
+use Rattle.first_pass_grammar.proofs.Common.{marker_items, add_break, TextLines, text_lines, AreTextLines, lines_from, HeadingLevel, underline_first}
+use Rattle.first_pass_grammar.proofs.Common.{setext_underline, none-some}
+use Rattle.first_pass_leaves.proofs.Common.{container_of, with_container, path_of, with_child, AreIn, front-end, path_of-chained, path_of-opened, opened_in}
+use Rattle.first_pass_leaves.proofs.Common.{line_end_at, with_closed_break, with_text-chained, appended-chained, marked_chain, Container, ends_past, text_place}
 use Rattle.first_pass_grammar.specs.Kinds.{ends_text}
 use Rattle.first_pass_grammar.proofs.Names.MoreNames.{extends_both}
-use Rattle.first_pass_open.specs.Between.{line_end_at}
-use Rattle.first_pass_leaves.specs.Appends.{with_closed_break, AppendsLines}
-use Rattle.first_pass_open.specs.OpenBlock.{with_child}
-use Rattle.first_pass_open.specs.Path.{container_of, with_container, path_of}
+use Rattle.first_pass_leaves.specs.Appends.{AppendsLines}
 use Rattle.first_pass_leaves.proofs.SoFar.{LinesSoFar}
 use Rattle.first_pass_kinds.specs.NextLines.{next_by, next_line_of}
-use Rattle.first_pass_open.proofs.BlockLemmas.{marked_chain}
-use Rattle.first_pass_open.proofs.PathLemmas.{AreIn, front-end, path_of-chained, path_of-opened, opened_in}
 use Rattle.first_pass_leaves.proofs.OrderHeading.{line_stops}
-use Rattle.first_pass_open.proofs.PlaceLemmas.{ends_past, text_place}
 use Rattle.first_pass_kinds.specs.declared.interrupt.NextLine.{NextLine}
 use Rattle.first_pass_kinds.specs.declared.interrupt.NextLine.TheVariants.{More, Underline, NotText}
 

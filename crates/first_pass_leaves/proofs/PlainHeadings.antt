@@ -2,18 +2,14 @@
 use Rattle.std.proofs.Common.{◌≡◌, ◌<◌, ◌≤◌, ℕ, ◌+◌, ◌-◌, ◌==◌, min, Bool, true, false, List, [], length, take, slice_index, Option, None, is_some, inl, inr}
 use Rattle.std.proofs.Common.{refl, sym, ap, subst, ◌∙◌, arith, slice_range, option_map}
 use Rattle.first_pass_grammar.proofs.Common.{cases_Bool, cases_lt, cond-true, cond-false, cond_both, none_is, none_mapped, backslash, CowStr, Item, Options}
-use Rattle.first_pass_grammar.proofs.Common.{add_text, add_tokens, close_break, cut, text_end, breaks_by_backslash, line_end_len, AreLineTokens, IsCell}
-use Rattle.first_pass_grammar.proofs.Common.{Inline, text_upto, leaves, add_text-some, add_text-none, kept_len, heading_chain, Document, document, IsHeading}
-use Rattle.first_pass_grammar.proofs.Common.{heading_attribute_block, before_attributes, heading_attributes_of, text_before_attributes, Names}
-use Rattle.first_pass_grammar.proofs.Common.{NamesAttributes, Extends, HeadingIndex, Braces, no_braces, option_map_or}
-use Rattle.std.proofs.lemmas.Bool.{eqb-false}
+use Rattle.first_pass_grammar.proofs.Common.{add_text, add_tokens, close_break, cut, text_end, breaks_by_backslash, line_end_len, AreLineTokens, IsCell, Inline}
+use Rattle.first_pass_grammar.proofs.Common.{text_upto, leaves, add_text-some, add_text-none, kept_len, heading_chain, Document, document, IsHeading}
+use Rattle.first_pass_grammar.proofs.Common.{heading_attribute_block, before_attributes, heading_attributes_of, text_before_attributes, Names, NamesAttributes}
+use Rattle.first_pass_grammar.proofs.Common.{Extends, HeadingIndex, Braces, no_braces, option_map_or}
+use Rattle.first_pass_leaves.proofs.Common.{line_end_at, line_from, attribute_place, text_between, eqb-false, end_bounded, ends_line}
 use Rattle.first_pass_walk.specs.Walk.{is_special, IsNextMarked, MarksSpecial}
-use Rattle.first_pass_tree.specs.Forest.{text_between}
 use Rattle.first_pass_tokens.specs.LineTokens.{line_break, backslashes_at_end}
-use Rattle.first_pass_tokens.proofs.LineLemmas.{end_bounded, ends_line}
-use Rattle.first_pass_open.specs.Between.{line_end_at}
 use Rattle.first_pass_leaves.specs.declared.heading.AttributeBlock.{AttributeBlock}
-use Rattle.first_pass_leaves.specs.Appends.{line_from, attribute_place}
 use Rattle.first_pass_leaves.proofs.AttributeEnds.{before_none}
 use Rattle.first_pass_leaves.specs.PlainHeadings.{IsPlainHeading}
 use Rattle.first_pass_leaves.proofs.HeadingLemmas.{chain_none, chain_kept, line_between, place_cut}

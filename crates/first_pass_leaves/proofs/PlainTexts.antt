@@ -1,25 +1,17 @@
 -- A paragraph or a setext heading is added to the tree.
-use Rattle.std.proofs.Common.{◌≡◌, Bool, ◌≤◌, ℕ, ◌+◌, List, [], ◌++◌, length, drop, Option, Some, None, IfSome, MatchOption, IsUtf8, IsCharBoundary, refl}
-use Rattle.std.proofs.Common.{sym, ap, subst, ◌∙◌, arith, false, IsSome, slice_get, option_map}
+use Rattle.std.proofs.Common.{◌≡◌, Bool, ◌≤◌, ℕ, ◌+◌, List, [], ◌++◌, length, drop, Option, Some, None, IfSome, MatchOption, IsUtf8, IsCharBoundary, refl, sym}
+use Rattle.std.proofs.Common.{ap, subst, ◌∙◌, arith, false, IsSome, slice_get, option_map}
 use Rattle.first_pass_grammar.proofs.Common.{Item, HeadingLevel, Forest, appended, pushed, is_text, item_at, Place, start_of, lines_at-line, start_of-lines}
 use Rattle.first_pass_grammar.proofs.Common.{Document, document, TextLines, text_lines, AreTextLines, heading_block, marker_items, Names, Extends}
 use Rattle.first_pass_grammar.proofs.Common.{NamesAttributes, heading_attribute_block, heading_attributes_of, chain_bytes, kept_before, Braces, Options}
 use Rattle.first_pass_grammar.proofs.Common.{option_map_or, underline_first, text_children, plain_text, underlined_text, by_backslash, heading_bytes}
 use Rattle.first_pass_grammar.proofs.Common.{children_without, heading_children, IsUnderlined, Taken, taking, lines_from, TreeIndex, no_braces, spot, chained}
 use Rattle.first_pass_grammar.proofs.Common.{close_break, cut, joins_none-fresh, Paragraph, Heading, none_mapped, some_mapped}
-use Rattle.first_pass_grammar.specs.Leaves.{paragraph_block}
+use Rattle.first_pass_leaves.proofs.Common.{path_of, closed_by, no_names, line_end_at, AddsPlainText, with_closed_break, pushed-fresh, still_open, block_closed}
+use Rattle.first_pass_leaves.proofs.Common.{open_place_of, open_item_of, open_named, cut_chain, BecomesHeading, TextEnd, paragraph_block}
 use Rattle.first_pass_grammar.proofs.Names.MoreNames.{extends_both}
-use Rattle.first_pass_names.specs.TableEntries.{no_names}
-use Rattle.first_pass_open.specs.Path.{path_of}
-use Rattle.first_pass_open.specs.Between.{line_end_at}
-use Rattle.first_pass_leaves.specs.Appends.{AddsPlainText, with_closed_break}
 use Rattle.first_pass_leaves.proofs.ParagraphLemmas.{underline_there, underline_within, with_closed_break-chained, closed_past}
-use Rattle.first_pass_tokens.proofs.ChainLemmas.{pushed-fresh}
-use Rattle.first_pass_open.specs.OpenBlock.{closed_by}
-use Rattle.first_pass_open.proofs.BlockLemmas.{still_open, block_closed, open_place_of, open_item_of, open_named}
-use Rattle.first_pass_leaves.specs.declared.paragraph.TextEnd.{TextEnd}
 use Rattle.first_pass_leaves.proofs.OrderHeading.{line_stops}
-use Rattle.first_pass_leaves.specs.CutTexts.{cut_chain, BecomesHeading}
 use Rattle.first_pass_leaves.proofs.AttributeEnds.{cut_none}
 
 -- the break after a chain with a marker before it is closed in the same way

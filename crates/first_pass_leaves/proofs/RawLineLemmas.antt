@@ -2,9 +2,8 @@
 use Rattle.std.proofs.Common.{◌≡◌, ℕ, zero, suc, ◌-◌, ◌≤◌, true, false, List, ◌∷◌, ◌++◌, refl, sym, ap, ◌∙◌, arith, [], slice_range}
 use Rattle.first_pass_grammar.proofs.Common.{cond-true, cond-false, space, CowIndex, Item, SynthesizeText, Forest, with_tokens, chained, Names, NamesText}
 use Rattle.first_pass_grammar.proofs.Common.{spaces, AreColumns, ends_with_both, Ranges, raw_items}
-use Rattle.first_pass_tokens.proofs.ChainLemmas.{with_tokens-append, with_token-plain}
+use Rattle.first_pass_leaves.proofs.Common.{with_tokens-append, with_token-plain, AppendsColumns, AppendsRaw}
 use Rattle.first_pass_names.proofs.NameLemmas.{extends_none}
-use Rattle.first_pass_leaves.specs.RawBlocks.{AppendsColumns, AppendsRaw}
 
 -- up to three spaces
 pub spaces_taken : (n : ℕ) → n ≤ 3 → slice_range (space ∷ space ∷ space ∷ []) 0 n ≡ spaces n

@@ -5,31 +5,22 @@ use Rattle.std.proofs.Common.{get_or, nat_lt, nat_le, if◌then◌else◌, Optio
 use Rattle.std.proofs.Common.{length-append, length-drop, get_or-drop, drop-drop, option_map, eqb-true, true≢false}
 use Rattle.first_pass_grammar.proofs.Common.{prefix_len, cond_both, cases_lt, and_parts, nat_tests, at_drop_more, prefix_len-le-length, prefix_len_passes}
 use Rattle.first_pass_grammar.proofs.Common.{prefix_len_stops, cond_some, IsCharBoundary-before_ascii, IsCharBoundary-end, line_feed, carriage_return, space}
-use Rattle.first_pass_grammar.proofs.Common.{hyphen, full_stop, ascii_end, Item, ItemBody, IndentCodeBlock, FencedCodeBlock, MetadataBlock, HtmlBlock}
-use Rattle.first_pass_grammar.proofs.Common.{BlockEnd, is_content, line_len, at_line_end, run_len, closing_fence_len, Rest, indent, Place, offset, line_end}
-use Rattle.first_pass_grammar.proofs.Common.{line_rest, line_place, place_at, moved_columns, start_of, IsPlaceOf, line_len-some, line_len-within}
-use Rattle.first_pass_grammar.proofs.Common.{line_is_place, columns_keep, columns_line_end, place_length, start_of-lines, add_token, add_tokens, AreInOrder}
-use Rattle.first_pass_grammar.proofs.Common.{order_from, order_to, order_adds, has_columns, at_rest, after, taken, all_taken, unindented, is_blank_rest}
-use Rattle.first_pass_grammar.proofs.Common.{Names, Document, block_with, AreColumns, ends_with_both, Ranges, range_text, range_html, raw_items, IsRawLine}
-use Rattle.first_pass_grammar.proofs.Common.{AreRawLines, with_line, extent_to, Verdict, GoesOn, IsLast, Closes, Stops, extent_by, extent, judged}
-use Rattle.first_pass_grammar.proofs.Common.{in_containers, code_lines, without_blanks, last_end, fence_judge, IsFencedCode, metadata_judge, metadata_kind}
-use Rattle.first_pass_grammar.proofs.Common.{IsMetadata, holds_end, tag_judge, blank_judge, IsHtml, lines_from, counted_nodes, Elsewhere, FitsBetween}
-use Rattle.std.proofs.lemmas.Bool.{or_cases}
-use Rattle.first_pass_lines.specs.Lines.{is_space_or_tab}
+use Rattle.first_pass_grammar.proofs.Common.{hyphen, full_stop, ascii_end, Item, ItemBody, IndentCodeBlock, FencedCodeBlock, MetadataBlock, HtmlBlock, BlockEnd}
+use Rattle.first_pass_grammar.proofs.Common.{is_content, line_len, at_line_end, run_len, closing_fence_len, Rest, indent, Place, offset, line_end, line_rest}
+use Rattle.first_pass_grammar.proofs.Common.{line_place, place_at, moved_columns, start_of, IsPlaceOf, line_len-some, line_len-within, line_is_place}
+use Rattle.first_pass_grammar.proofs.Common.{columns_keep, columns_line_end, place_length, start_of-lines, add_token, add_tokens, AreInOrder, order_from}
+use Rattle.first_pass_grammar.proofs.Common.{order_to, order_adds, has_columns, at_rest, after, taken, all_taken, unindented, is_blank_rest, Names, Document}
+use Rattle.first_pass_grammar.proofs.Common.{block_with, AreColumns, ends_with_both, Ranges, range_text, range_html, raw_items, IsRawLine, AreRawLines}
+use Rattle.first_pass_grammar.proofs.Common.{with_line, extent_to, Verdict, GoesOn, IsLast, Closes, Stops, extent_by, extent, judged, in_containers, code_lines}
+use Rattle.first_pass_grammar.proofs.Common.{without_blanks, last_end, fence_judge, IsFencedCode, metadata_judge, metadata_kind, IsMetadata, holds_end}
+use Rattle.first_pass_grammar.proofs.Common.{tag_judge, blank_judge, IsHtml, lines_from, counted_nodes, Elsewhere, FitsBetween}
+use Rattle.first_pass_leaves.proofs.Common.{Container, after_line_at, code_after, fenced_after, metadata_after, html_to_end, html_to_blank, order_append}
+use Rattle.first_pass_leaves.proofs.Common.{after_keeps, line_start_end, unless_blank, IsIndentedCode, fence_verdict, metadata_verdict, line_of, or_cases}
+use Rattle.first_pass_leaves.proofs.Common.{is_space_or_tab, few_add, line_len-parts, block_fits, length-block, first_owing, own_at_most}
 use Rattle.first_pass_scan.specs.Metadata.{three_of, closing_marks, closing_metadata_len}
-use Rattle.first_pass_lines.specs.Places.{line_of}
-use Rattle.first_pass_lines.proofs.LineFacts.{line_len-parts}
 pub use Rattle.first_pass_lines.proofs.LineFacts.{first_line}
-use Rattle.first_pass_tokens.proofs.BytesLemmas.{few_add}
-use Rattle.first_pass_tokens.proofs.OrderLemmas.{order_append}
-use Rattle.first_pass_grammar.specs.declared.kind.Container.{Container}
 use Rattle.first_pass_grammar.specs.Extents.{Extent as Lines}
-use Rattle.first_pass_grammar.specs.CodeBlocks.{unless_blank, IsIndentedCode, fence_verdict, metadata_verdict}
-use Rattle.first_pass_grammar.specs.HtmlBlocks.{first_owing}
-use Rattle.first_pass_grammar.proofs.Order.Orders.{block_fits, length-block}
-use Rattle.first_pass_grammar.proofs.Count.CountedNodes.{own_at_most}
-use Rattle.first_pass_leaves.specs.RawBlocks.{after_line_at, code_after, fenced_after, metadata_after, html_to_end, html_to_blank}
-use Rattle.first_pass_open.proofs.PlaceLemmas.{after_keeps, place_end, line_start_end}
+use Rattle.first_pass_open.proofs.PlaceLemmas.{place_end}
 
 -- These places are in the text between two offsets, each after the line of the one before it.
 unfoldable pub ArePlaced : List ℕ → ℕ → List Place → ℕ → Type 0

@@ -2,8 +2,7 @@
 use Rattle.std.proofs.Common.{◌≡◌, ◌⊎◌, ◌≤◌, ℕ, List, [], IsCharBoundary}
 use Rattle.first_pass_grammar.proofs.Common.{Item, Forest, no_braces, Spot, spot, chained, Document, document, TextLines, AreTextLines, Names, Extends}
 use Rattle.first_pass_grammar.proofs.Common.{lines_from}
-use Rattle.first_pass_open.specs.Between.{line_end_at}
-use Rattle.first_pass_open.specs.Path.{path_of}
+use Rattle.first_pass_leaves.proofs.Common.{path_of, line_end_at}
 
 -- The lines of a text are read up to the text of another line, with the brace contexts there. Under any further
 -- names, the remaining lines turn the chain so far into the chain of all lines.

@@ -3,11 +3,9 @@ use Rattle.std.proofs.Common.{◌≡◌, inl, inr, ℕ, zero, suc, ◌+◌, ◌-
 use Rattle.std.proofs.Common.{if◌then◌else◌, refl, sym, ap, ◌∙◌, arith, get_or-drop, length-drop, drop-drop, option_map, true≢false}
 use Rattle.first_pass_grammar.proofs.Common.{prefix_len, cases_lt, nat_tests, drop_more, prefix_len_passes, prefix_len_stops, line_feed, is_content, eol_len}
 use Rattle.first_pass_grammar.proofs.Common.{Rest, indent, after_columns, line_place, line_rest, offset, all_taken, unindented, ends_with_both, fence_judge}
-use Rattle.first_pass_lines.proofs.LineFacts.{line_len-content_end}
-use Rattle.first_pass_lines.proofs.PlaceFacts.{columns_hold}
-use Rattle.first_pass_grammar.specs.CodeBlocks.{closing_fence_end}
+use Rattle.first_pass_leaves.proofs.Common.{is_unmarked, IsWhole, after_line_at, columns_hold, closing_fence_end, line_len-content_end}
 use Rattle.first_pass_leaves.specs.declared.raw_line.RawKind.TheVariants.{Code}
-use Rattle.first_pass_leaves.specs.RawBlocks.{is_unmarked, IsWhole, AreWhole, after_line_at}
+use Rattle.first_pass_leaves.specs.RawBlocks.{AreWhole}
 use Rattle.first_pass_leaves.proofs.FencedLemmas.{no_run}
 
 -- The columns at the start of a line end at its `\n` or before it.

@@ -1,19 +1,14 @@
 -- Whole lines of code that no container is around: together they are one text.
-use Rattle.std.proofs.Common.{◌≡◌, ◌⊎◌, inl, inr, ℕ, zero, suc, ◌<◌, ◌≤◌, Bool, true, false, List, [], ◌∷◌, length, drop, reverse, slice_index_or, Some}
-use Rattle.std.proofs.Common.{IsUtf8, IsCharBoundary, if◌then◌else◌, nat_lt, refl, sym, ap, subst, ◌∙◌, arith}
+use Rattle.std.proofs.Common.{◌≡◌, ◌⊎◌, inl, inr, ℕ, zero, suc, ◌<◌, ◌≤◌, Bool, true, false, List, [], ◌∷◌, length, drop, reverse, slice_index_or, Some, IsUtf8}
+use Rattle.std.proofs.Common.{IsCharBoundary, if◌then◌else◌, nat_lt, refl, sym, ap, subst, ◌∙◌, arith}
 use Rattle.first_pass_grammar.proofs.Common.{cases_lt, Item, CowIndex, FencedCodeBlock, Options, TreeIndex, Forest, item_at, Place, line_place, line_rest}
-use Rattle.first_pass_grammar.proofs.Common.{JoinsNone, with_tokens, chained, text_token, add_text, add_token, add_tokens, add_text-none}
-use Rattle.first_pass_grammar.proofs.Common.{with_tokens-chained, after, Document, Verdict, range_text}
-use Rattle.std.proofs.lemmas.List.{reverse-reverse}
-use Rattle.first_pass_tree.specs.Forest.{with_text}
-use Rattle.first_pass_tokens.proofs.ChainLemmas.{add_text-joined, with_text-chained, with_text-none}
-use Rattle.first_pass_open.specs.Path.{path_of}
-use Rattle.first_pass_open.proofs.FrontLemmas.{container_is}
-use Rattle.first_pass_open.proofs.PathLemmas.{AreIn}
-use Rattle.first_pass_open.proofs.PlaceLemmas.{line_start_end}
+use Rattle.first_pass_grammar.proofs.Common.{JoinsNone, with_tokens, chained, text_token, add_text, add_token, add_tokens, add_text-none, with_tokens-chained}
+use Rattle.first_pass_grammar.proofs.Common.{after, Document, Verdict, range_text}
+use Rattle.first_pass_leaves.proofs.Common.{path_of, AreIn, add_text-joined, with_text-chained, with_text-none, range_of, IsWhole, after_line_at}
+use Rattle.first_pass_leaves.proofs.Common.{reverse-reverse, with_text, container_is, line_start_end}
 use Rattle.first_pass_names.proofs.NameLemmas.{extends_none}
 use Rattle.first_pass_leaves.specs.declared.verdict.Verdict.TheVariants.{GoesOn}
-use Rattle.first_pass_leaves.specs.RawBlocks.{range_of, IsWhole, AreWhole, after_line_at}
+use Rattle.first_pass_leaves.specs.RawBlocks.{AreWhole}
 use Rattle.first_pass_leaves.specs.declared.raw_line.RawKind.{RawKind}
 use Rattle.first_pass_leaves.proofs.ExtentLemmas.{ReadSoFar, LineAppended, LineJudged, lines_path, lines_start, line_read, read_more}
 use Rattle.first_pass_leaves.proofs.RawLineLemmas.{raw_one}

@@ -1,11 +1,9 @@
 -- Facts on the opening of an ATX heading.
 use Rattle.std.proofs.Common.{◌≡◌, ℕ, ◌≤◌, Bool, true, false, List, length, drop, Some, None, refl, ap, ◌∙◌, arith, if◌then◌else◌}
-use Rattle.std.specs.List.{prefix_len}
-use Rattle.std.proofs.lemmas.Bool.Decides.{nat_tests}
-use Rattle.std.proofs.lemmas.List.Sums.{prefix_len-le-length}
+use Rattle.first_pass_lines.proofs.Common.{prefix_len, prefix_len-le-length, nat_tests, is_number_sign, level_number, level_of, ends_signs}
 use Rattle.first_pass_items.specs.declared.item.HeadingLevel.{HeadingLevel}
 use Rattle.first_pass_items.specs.declared.item.HeadingLevel.TheVariants.{H1, H2, H3, H4, H5, H6}
-use Rattle.first_pass_lines.specs.Lines.{is_number_sign, level_number, level_of, ends_signs, atx_level}
+use Rattle.first_pass_lines.specs.Lines.{atx_level}
 
 pub level_of-number : (n : ℕ) (level : HeadingLevel) → level_of n ≡ Some level → level_number level ≡ n
 level_of-number n H1 h = grind (arith, nat_tests, h)
@@ -26,6 +24,4 @@ unfolding atx_level
 atx_level-signs bs level h =
     let n : ℕ = prefix_len is_number_sign bs in
     let parts = heading_by (ends_signs (drop n bs)) n level h in
-    let same = level_of-number n level parts.0 in
-    let fits = prefix_len-le-length is_number_sign bs in
-    (same, omega arith, ap (λ k. ends_signs (drop k bs)) same ∙ parts.1)
+    grind (arith, level_of-number, prefix_len-le-length)

@@ -1,10 +1,8 @@
 -- From the mask of one load to the bytes that pass a test.
-use Rattle.std.proofs.Common.{◌≡◌, ℕ, ◌+◌, ◌-◌, ◌%◌, ◌^◌, ◌<◌, ◌≤◌, Bool, true, false, not, List, ◌∷◌, map, length, get_or, replicate, Fits, w8, refl, sym}
-use Rattle.std.proofs.Common.{[], zero, suc, drop, ap, ap₂, ◌∙◌, subst, arith, inl, inr, eq-eqb, ne_eqb}
-use Rattle.std.proofs.lemmas.Bool.{agree_below, agree_below_at, not-true, not-false, cases_eq, cond-true, cond-false}
-use Rattle.std.proofs.lemmas.Simd.{length-chunk, get_or-chunk, leading_from_mask_l, trailing_mask_l}
-use Rattle.std.proofs.lemmas.List.Sums.{prefix_len-le-length, prefix_len_passes, prefix_len_stops}
-use Rattle.std.specs.List.{prefix_len}
+use Rattle.std.proofs.Common.{◌≡◌, ℕ, ◌+◌, ◌-◌, ◌%◌, ◌^◌, ◌<◌, ◌≤◌, Bool, true, false, not, List, ◌∷◌, map, length, get_or, replicate, Fits, w8, refl, sym, []}
+use Rattle.std.proofs.Common.{zero, suc, drop, ap, ap₂, ◌∙◌, subst, arith, inl, inr, eq-eqb, ne_eqb}
+use Rattle.first_pass_lines.proofs.Common.{prefix_len, prefix_len-le-length, prefix_len_passes, prefix_len_stops, agree_below, agree_below_at, not-true}
+use Rattle.first_pass_lines.proofs.Common.{not-false, cases_eq, cond-true, cond-false, length-chunk, get_or-chunk, leading_from_mask_l, trailing_mask_l}
 use lib.Lanes.{chunk, zip2, mask_l, top}
 use Rattle.first_pass_lines.specs.Lanes.{first_set, IsRunIn}
 use Rattle.first_pass_lines.proofs.MaskLemmas.{mask_is}
@@ -22,11 +20,7 @@ splat_is [] n y e = ap (λ k. replicate k y) (sym e)
 splat_is (x ∷ xs) n y e = ap (λ k. replicate k y) (sym e) ∙ ap (λ r. y ∷ r) (splat_is xs (length xs) y refl)
 
 run_is : (p : ℕ → Bool) (v : List ℕ) (n : ℕ) → length v ≡ n → n ≤ 64 → first_set (mask_l (map p v)) n ≡ prefix_len (λ x. not (p x)) v
-run_is p v n long bound =
-    elim (cases_eq (mask_l (map p v)) 0) [
-      | inl none ↦ cond-true _ _ _ (eq-eqb _ _ none) ∙ sym (leading_from_mask_l p v none ∙ long)
-      | inr some ↦ cond-false _ _ _ (ne_eqb _ _ some) ∙ trailing_mask_l p 64 v (omega arith) (omega arith)
-    ]
+run_is p v n long bound = grind (arith, cases_eq, cond-true, leading_from_mask_l, long, cond-false, trailing_mask_l)
 
 module _ (q : ℕ → Bool) (d : List ℕ) (i n r : ℕ) (z : List ℕ) (room : i + n ≤ length d) (bound : n ≤ 64)
     (fits : (k : ℕ) → Fits w8 (get_or d k 0)) (found : r ≡ first_set (mask_l (map (top 7) z) % 2 ^ 64) n)
@@ -43,9 +37,7 @@ module _ (q : ℕ → Bool) (d : List ℕ) (i n r : ℕ) (z : List ℕ) (room : 
   continues : (k : ℕ) → i ≤ k → k < i + r → stops (get_or d k 0) ≡ false
   continues k from to =
       let back : i + (k - i) ≡ k = omega arith in
-      let bound = prefix_len-le-length (λ x. not (stops x)) (chunk i n d) in
-      let at = get_or-chunk i n d (k - i) 0 (omega (arith, counted, long)) ∙ ap (λ j. get_or d j 0) back in
-      subst (λ x. stops x ≡ false) at (not-true _ (prefix_len_passes (λ x. not (stops x)) (chunk i n d) (k - i) 0 (omega (arith, counted))))
+      grind (arith, prefix_len-le-length, get_or-chunk, counted, long, not-true, prefix_len_passes)
 
   -- `stops` holds of a lane exactly if q fails
   pub run_in : agree_below stops (λ x. not (q x)) 256 ≡ true → IsRunIn q d i n r
@@ -64,5 +56,4 @@ pub after_passed : (p : ℕ → Bool) (xs : List ℕ) (i : ℕ)
 after_passed p xs zero h passed = omega arith
 after_passed p [] (suc i) h passed = absurd (omega arith)
 after_passed p (x ∷ xs) (suc i) h passed =
-    let first : p x ≡ true = passed 0 (omega arith) in
-    rw first (omega (arith, after_passed p xs i (omega arith) (λ k l. passed (suc k) (omega arith))))
+    rw (passed 0 (omega arith)) (omega (arith, after_passed p xs i (omega arith) (λ k l. passed (suc k) (omega arith))))

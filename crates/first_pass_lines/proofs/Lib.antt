@@ -1,3 +1,4 @@
+pub mod Common
 pub mod Columns
 pub mod HeadingFacts
 pub mod LaneLemmas

@@ -1,16 +1,13 @@
 -- Facts on lines.
-use Rattle.std.proofs.Common.{◌≡◌, ℕ, zero, suc, ◌+◌, ◌<◌, ◌≤◌, Bool, true, false, cond, not, ◌==◌, List, [], ◌∷◌, ◌++◌, length, take, drop, map, Some}
-use Rattle.std.proofs.Common.{None, ◌-◌, slice_index, not-suc-le-zero, Option, unwrap_or, refl, sym, ap, ◌∙◌, arith, add-one, length-drop, inl, inr}
-use Rattle.std.proofs.Common.{if◌then◌else◌, option_map, All, take-append-drop, drop-drop, length-take-le, eqb-true}
-use Rattle.std.specs.List.{prefix_len, concat, list_all}
-use Rattle.std.proofs.lemmas.List.{append_cancel_left, at_drop_all}
+use Rattle.std.proofs.Common.{◌≡◌, ℕ, zero, suc, ◌+◌, ◌<◌, ◌≤◌, Bool, true, false, cond, not, ◌==◌, List, [], ◌∷◌, ◌++◌, length, take, drop, map, Some, None}
+use Rattle.std.proofs.Common.{◌-◌, slice_index, not-suc-le-zero, Option, unwrap_or, refl, sym, ap, ◌∙◌, arith, add-one, length-drop, inl, inr, if◌then◌else◌}
+use Rattle.std.proofs.Common.{option_map, All, take-append-drop, drop-drop, length-take-le, eqb-true}
+use Rattle.first_pass_lines.proofs.Common.{prefix_len, concat, list_all, cases_eq, cases_lt, append_cancel_left, at_drop_all, line_feed, carriage_return}
+use Rattle.first_pass_lines.proofs.Common.{nat_tests, begins, ends, ends_line, is_white, is_content, eol_len, blank_len, IsLineEnd, IsLine}
 use Rattle.std.proofs.Math.Seq.{take-append_seam}
 use Rattle.std.proofs.lemmas.Grind.{common_steps}
-use Rattle.std.proofs.lemmas.Bool.{cases_eq, cases_lt}
 use Rattle.std.proofs.lemmas.List.Elements.{All-nil, All-cons}
-use Rattle.std.proofs.lemmas.Bool.Decides.{nat_tests}
-use Rattle.first_pass_items.specs.Bytes.{line_feed, carriage_return}
-use Rattle.first_pass_lines.specs.Lines.{begins, ends, ends_line, is_white, is_content, eol_len, blank_len, line_len, IsLineEnd, IsLine}
+use Rattle.first_pass_lines.specs.Lines.{line_len}
 use Rattle.first_pass_lines.specs.Places.{Place, line_place, IsLinePlace, lines_after, lines_at, line_of, IsDivision}
 
 -- a byte that passes a test differs from a byte that fails it
@@ -29,9 +26,7 @@ line_len-none = refl
 
 end_first : (b : ℕ) (bs : List ℕ) → is_content b ≡ false → line_len (b ∷ bs) ≡ unwrap_or (eol_len (b ∷ bs)) 0
 unfolding line_len
-end_first b bs h =
-    let n : prefix_len is_content (b ∷ bs) ≡ 0 = rw h in
-    rw n (omega arith)
+end_first b bs h = grind arith
 
 pub line_len-content_first : (b : ℕ) (bs : List ℕ) → is_content b ≡ true → line_len (b ∷ bs) ≡ line_len bs + 1
 unfolding line_len
@@ -67,9 +62,7 @@ line_len-some (b ∷ bs) h = rw (line_len-step b bs) (elim (ends_line b bs) as (
 
 pub line_len-fits : (bs : List ℕ) → line_len bs ≤ length bs
 line_len-fits [] = omega (arith, line_len-none)
-line_len-fits (b ∷ bs) =
-    let r = line_len-fits bs in
-    rw (line_len-step b bs) (elim (ends_line b bs) as (λ t. cond t 1 (line_len bs + 1) ≤ suc (length bs)) [ true ↦ omega arith | false ↦ omega arith ])
+line_len-fits (b ∷ bs) = grind (arith, line_len-step, line_len-fits bs)
 
 -- the first line, and the lines after it
 pub lines_at-none : (s : ℕ) → lines_at s [] ≡ []
@@ -77,24 +70,12 @@ unfolding lines_at lines_after
 lines_at-none s = refl
 
 shift : (s k b : ℕ) (bs : List ℕ) → lines_at ((s + 1) + k) (drop k bs) ≡ lines_at (s + (k + 1)) (drop (k + 1) (b ∷ bs))
-shift s k b bs =
-    let e : (s + 1) + k ≡ s + (k + 1) = omega arith in
-    let d : drop (k + 1) (b ∷ bs) ≡ drop k bs = rw add-one in
-    cc
+shift s k b bs = grind (arith, add-one)
 
 after_first : (b s n : ℕ) (bs : List ℕ) → n ≡ line_len (b ∷ bs) → lines_after b (s + 1) bs ≡ lines_at (s + n) (drop n (b ∷ bs))
 unfolding lines_at lines_after
-after_first b s n [] h =
-    let e : n ≡ 1 =
-    h ∙ line_len-step b [] ∙ elim (ends_line b []) as (λ t. cond t 1 (line_len [] + 1) ≡ 1) [ true ↦ refl | false ↦ omega (arith, line_len-none) ] in
-    rw e
-after_first b s n (c ∷ cs) h =
-    (elim (ends_line b (c ∷ cs)) as (λ t. n ≡ cond t 1 (line_len (c ∷ cs) + 1)
-    → (let further = lines_after c ((s + 1) + 1) cs in cond t (line_place (s + 1) (c ∷ cs) ∷ further) further) ≡ lines_at (s + n) (drop n (b ∷ c ∷ cs))) [
-      | true ↦ λ e. rw e
-      | false ↦ λ e.
-          after_first c (s + 1) (line_len (c ∷ cs)) cs refl ∙ shift s (line_len (c ∷ cs)) b (c ∷ cs) ∙ ap (λ k. lines_at (s + k) (drop k (b ∷ c ∷ cs))) (sym e)
-    ]) (h ∙ line_len-step b (c ∷ cs))
+after_first b s n [] h = grind (arith, line_len-step, line_len-none)
+after_first b s n (c ∷ cs) h = grind (arith, shift, line_len-step, after_first c (s + 1) (line_len (c ∷ cs)) cs refl)
 
 pub lines_at-first : (s b : ℕ) (bs : List ℕ) → let n : ℕ = line_len (b ∷ bs) in lines_at s (b ∷ bs) ≡ line_place s (b ∷ bs) ∷ lines_at (s + n) (drop n (b ∷ bs))
 unfolding lines_at lines_after
@@ -108,8 +89,7 @@ pub lines_at-line : (text : List ℕ) (s : ℕ)
     → s < length text → let n : ℕ = line_len (drop s text) in lines_at s (drop s text) ≡ line_place s (drop s text) ∷ lines_at (s + n) (drop (s + n) text)
 lines_at-line text s h =
     let l = length-drop s text in
-    let n : ℕ = line_len (drop s text) in
-    lines_at-some s (drop s text) (omega arith) ∙ ap (λ bs. line_place s (drop s text) ∷ lines_at (s + n) bs) (drop-drop n s text)
+    grind (arith, lines_at-some, drop-drop)
 
 pub lines_at-end : (text : List ℕ) (s : ℕ) → length text ≤ s → lines_at s (drop s text) ≡ []
 lines_at-end text s h = at_drop_all (lines_at s) text s h ∙ lines_at-none s
@@ -117,17 +97,10 @@ lines_at-end text s h = at_drop_all (lines_at s) text s h ∙ lines_at-none s
 -- the first of the lines from an offset on, and the other lines
 pub first_line : (text : List ℕ) (s : ℕ) (line : Place) (lines : List Place) → line ∷ lines ≡ lines_at s (drop s text)
     → (s < length text) × (line ≡ line_place s (drop s text)) × (lines ≡ (let n : ℕ = s + line_len (drop s text) in lines_at n (drop n text)))
-first_line text s line lines is = elim (cases_lt s (length text)) [
-  | inl within ↦ (let e = is ∙ lines_at-line text s within in (within, cc, cc))
-  | inr past ↦ absurd (let none : line ∷ lines ≡ [] = is ∙ lines_at-end text s past in cc)
-]
+first_line text s line lines is = grind (arith, cases_lt, lines_at-line, lines_at-end)
 
 pub line_len-within : (text : List ℕ) (s : ℕ) → s < length text → let n : ℕ = line_len (drop s text) in (0 < n) × (s + n ≤ length text)
-line_len-within text s h =
-    let l = length-drop s text in
-    let some : 0 < line_len (drop s text) = line_len-some (drop s text) (omega arith) in
-    let fits = line_len-fits (drop s text) in
-    (some, omega arith)
+line_len-within text s h = grind (arith, length-drop, line_len-some, line_len-fits)
 
 -- a line, before further bytes, has the length of their first line
 line_len-end : (bs following : List ℕ) → IsLineEnd bs following → line_len (bs ++ following) ≡ length bs
@@ -138,16 +111,10 @@ line_len-end bs following (inr (inr (inr h))) = rw (h.0, h.1) line_len-none
 
 line_len-content : (content rest : List ℕ) → list_all is_content content ≡ true → line_len (content ++ rest) ≡ length content + line_len rest
 line_len-content [] rest h = omega arith
-line_len-content (b ∷ bs) rest h =
-    let r = line_len-content bs rest (grind (arith, h)) in
-    let e = line_len-content_first b (bs ++ rest) (grind (arith, h)) in
-    omega arith
+line_len-content (b ∷ bs) rest h = grind (arith, line_len-content_first, line_len-content bs rest (grind (arith, h)))
 
 line_len-line : (line following : List ℕ) → IsLine line following → line_len (line ++ following) ≡ length line
-line_len-line line following i =
-    let e = line_len-content i.content (i.ending ++ following) i.plain in
-    let f = line_len-end i.ending following i.ends in
-    rw i.parts (grind (arith, common_steps, e, f))
+line_len-line line following i = grind (arith, line_len-content, line_len-end, common_steps)
 
 -- the first line is a line before the bytes after it
 record Front (bs : List ℕ) (n : ℕ) : Type 0 where
@@ -165,9 +132,7 @@ front_return b bs h h' = record { content = []; ending = b ∷ []; parts = refl;
 
 front_both : (b : ℕ) (bs : List ℕ) → b ≡ carriage_return → begins line_feed bs ≡ true → Front (b ∷ bs) 2
 front_both b [] h h' = cc
-front_both b (c ∷ cs) h h' =
-    let e : c ≡ line_feed = grind (arith, nat_tests, h') in
-    record { content = []; ending = b ∷ c ∷ []; parts = refl; plain = refl; ends = inr (inl (rw (h, e))) }
+front_both b (c ∷ cs) h h' = grind (arith, nat_tests)
 
 front_content : (b : ℕ) (bs : List ℕ) (n : ℕ) → is_content b ≡ true → Front bs n → Front (b ∷ bs) (n + 1)
 front_content b bs n h f =
@@ -180,9 +145,7 @@ front_by : (t u v : Bool) (b : ℕ) (bs : List ℕ)
     → Front (b ∷ bs) (cond (ends_line b bs) 1 (line_len bs + 1))
 front_by true u v b bs h h' h'' f = rw h (front_newline b bs (eqb-true b line_feed h))
 front_by false true false b bs h h' h'' f = rw (h, h', h'') (front_return b bs (eqb-true b carriage_return h') h'')
-front_by false true true b bs h h' h'' f =
-    let two : line_len bs + 1 ≡ 2 = omega (arith, line_len-begins bs h'') in
-    rw (h, h', h'') (rw two (front_both b bs (eqb-true b carriage_return h') h''))
+front_by false true true b bs h h' h'' f = grind (arith, line_len-begins, front_both)
 front_by false false v b bs h h' h'' f = rw (h, h') (front_content b bs (line_len bs) (rw (h, h')) f)
 
 front_of : (bs : List ℕ) → Front bs (line_len bs)
@@ -192,16 +155,7 @@ front_of (b ∷ bs) = rw (line_len-step b bs) (front_by (b == line_feed) (b == c
 first_is_line : (bs following : List ℕ) → 0 < length bs → following ≡ drop (line_len bs) bs → IsLine (take (line_len bs) bs) following
 first_is_line bs following h e =
     let f = front_of bs in
-    let l : length (take (line_len bs) bs) ≡ line_len bs = length-take-le (line_len bs) bs (line_len-fits bs) in
-    let n = line_len-some bs h in
-    record {
-      content = f.content;
-      ending = f.ending;
-      parts = f.parts;
-      plain = f.plain;
-      ends = rw e f.ends;
-      some = λ none. let z = ap length none in absurd (omega arith);
-    }
+    grind (arith, length-take-le, line_len-fits, line_len-some)
 
 -- the lines divide the text
 divide_by : (most s : ℕ) (bs : List ℕ) → length bs ≤ most → IsDivision bs (map line_of (lines_at s bs))
@@ -211,11 +165,7 @@ divide_by (suc most) s (b ∷ bs) h =
     let n : ℕ = line_len (b ∷ bs) in
     let some : 0 < n = line_len-some (b ∷ bs) (omega arith) in
     let l = length-drop n (b ∷ bs) in
-    let d = divide_by most (s + n) (drop n (b ∷ bs)) (omega arith) in
-    rw (lines_at-first s b bs) (record {
-      whole = ap (λ xs. take n (b ∷ bs) ++ xs) d.whole ∙ take-append-drop n (b ∷ bs);
-      lines = (first_is_line (b ∷ bs) _ (omega arith) d.whole, d.lines);
-    })
+    grind (arith, lines_at-first, take-append-drop, first_is_line, divide_by most (s + n) (drop n (b ∷ bs)) (omega arith))
 
 pub lines_divide : (s : ℕ) (bs : List ℕ) → IsDivision bs (map line_of (lines_at s bs))
 lines_divide s bs = divide_by (length bs) s bs (omega arith)
@@ -235,8 +185,7 @@ one_division text (p ∷ ps) (q ∷ qs) c d =
     let t : p ≡ q =
     sym (take-append_seam p (concat ps)) ∙ ap (λ xs. take (length p) xs) same ∙ ap (λ k. take k (q ++ concat qs)) n ∙ take-append_seam q (concat qs) in
     let r : concat ps ≡ concat qs = append_cancel_left q (concat ps) (concat qs) (ap (λ xs. xs ++ concat ps) (sym t) ∙ same) in
-    let rest : ps ≡ qs = one_division (concat ps) ps qs (record { whole = refl; lines = c.lines.1 }) (record { whole = sym r; lines = d.lines.1 }) in
-    cc
+    cc (one_division (concat ps) ps qs (record { whole = refl; lines = c.lines.1 }) (record { whole = sym r; lines = d.lines.1 }))
 
 -- each place is a place of the text
 places_by : (text : List ℕ) (b s : ℕ) (bs : List ℕ) → drop s text ≡ bs → All (IsLinePlace text) (lines_after b s bs)
@@ -244,13 +193,7 @@ unfolding lines_after
 places_by text b s [] h = All-nil _
 places_by text b s (c ∷ cs) h =
     let next : drop (s + 1) text ≡ cs = sym (drop-drop 1 s text) ∙ ap (drop 1) h in
-    let further = places_by text c (s + 1) cs next in
-    let here : IsLinePlace text (line_place s (c ∷ cs)) = ap (line_place s) (sym h) in
-    elim (ends_line b (c ∷ cs))
-    as (λ t. let further : List Place = lines_after c (s + 1) cs in All (IsLinePlace text) (cond t (line_place s (c ∷ cs) ∷ further) further)) [
-      | true ↦ All-cons (IsLinePlace text) _ _ here further
-      | false ↦ further
-    ]
+    grind (arith, All-cons, places_by text c (s + 1) cs next)
 
 pub lines_at-places : (text : List ℕ) → All (IsLinePlace text) (lines_at 0 text)
 unfolding lines_at
@@ -295,14 +238,11 @@ blank_by true b bs n h f e =
     let w : ℕ = prefix_len is_white bs in
     let p : prefix_len is_white (b ∷ bs) ≡ w + 1 = rw h (omega arith) in
     let d : drop (w + 1) (b ∷ bs) ≡ drop w bs = rw add-one in
-    let g : blank_len (b ∷ bs) ≡ option_map (λ k. (w + 1) + k) (eol_len (drop w bs)) = rw p (rw d refl) in
-    let m = one_less w n (eol_len (drop w bs)) (sym g ∙ e) in
-    let c = line_len-content_first b bs (grind (arith, nat_tests, h)) in
-    c ∙ ap (λ k. k + 1) (f m.0 m.1) ∙ sym m.2
+    let m = one_less w n (eol_len (drop w bs)) (sym (rw p (rw d refl)) ∙ e) in
+    (line_len-content_first b bs (grind (arith, nat_tests, h))) ∙ ap (λ k. k + 1) (f m.0 m.1) ∙ sym m.2
 blank_by false b bs n h f e =
     let p : prefix_len is_white (b ∷ bs) ≡ 0 = rw h in
-    let g : blank_len (b ∷ bs) ≡ option_map (λ k. 0 + k) (eol_len (b ∷ bs)) = rw p in
-    line_len-eol (b ∷ bs) n (no_white (eol_len (b ∷ bs)) n (sym g ∙ e))
+    line_len-eol (b ∷ bs) n (no_white (eol_len (b ∷ bs)) n (sym (rw p) ∙ e))
 
 pub line_len-blank : (bs : List ℕ) (n : ℕ) → blank_len bs ≡ Some n → line_len bs ≡ n
 line_len-blank [] n h = let e : 0 ≡ n = cc in line_len-none ∙ e
@@ -324,16 +264,11 @@ content_by true b bs h f =
     let n : prefix_len is_content (b ∷ bs) ≡ k + 1 = rw h (omega arith) in
     let d : drop (k + 1) (b ∷ bs) ≡ drop k bs = rw add-one in
     rw n (rw d f)
-content_by false b bs h f =
-    let n : prefix_len is_content (b ∷ bs) ≡ 0 = rw h in
-    let k = some_end (b == line_feed) (b == carriage_return) b bs refl refl h in
-    rw n (ends_at (b ∷ bs) k.0 k.1)
+content_by false b bs h f = grind (arith, some_end, ends_at)
 
 pub content_ends : (bs : List ℕ) → let rest : List ℕ = drop (prefix_len is_content bs) bs in eol_len rest ≡ Some (line_len rest)
 content_ends [] = ap Some (sym line_len-none)
 content_ends (b ∷ bs) = content_by (is_content b) b bs refl (content_ends bs)
 
 pub line_len-parts : (bs : List ℕ) → let n : ℕ = prefix_len is_content bs in line_len bs ≡ n + line_len (drop n bs)
-line_len-parts bs =
-    let n : ℕ = prefix_len is_content bs in
-    line_len-content_end bs ∙ ap (λ o. n + unwrap_or o 0) (content_ends bs)
+line_len-parts bs = grind (arith, line_len-content_end, content_ends)

@@ -1,9 +1,8 @@
 -- The mask of one load has a bit for each byte that fails a test.
 use Rattle.std.proofs.Common.{◌≡◌, ℕ, ◌+◌, ◌%◌, ◌^◌, ◌<◌, ◌≤◌, ◌==◌, Bool, true, false, not, cond, List, map, length, get_or, Fits, w8, refl, sym, ap, ◌∙◌}
 use Rattle.std.proofs.Common.{subst, arith}
-use Rattle.std.proofs.lemmas.Bool.{agree_below, agree_below_at}
-use Rattle.std.proofs.lemmas.List.{get_or-map, length-map}
-use Rattle.std.proofs.lemmas.Simd.{map-map, mask_l-mod, mask_l-lt, bit_mask_l, length-chunk, get_or-chunk}
+use Rattle.first_pass_lines.proofs.Common.{agree_below, agree_below_at, get_or-map, length-map, map-map, mask_l-mod, mask_l-lt, bit_mask_l, length-chunk}
+use Rattle.first_pass_lines.proofs.Common.{get_or-chunk}
 use Rattle.std.specs.Int.{bit_at}
 use lib.Lanes.{chunk, mask_l, top}
 
@@ -33,9 +32,7 @@ module _ (q : ℕ → Bool) (d : List ℕ) (i n : ℕ) (z : List ℕ) (room : i 
 
   -- only the bits of these lanes can be set
   pub mask_within : mask_l (map (top 7) z) % 2 ^ 64 < 2 ^ n
-  mask_within =
-      let v = chunk i n d in
-      subst (λ m. m < 2 ^ n) (sym mask) (subst (λ m. mask_l (map stops v) < 2 ^ m) (length-map v stops ∙ long) (mask_l-lt (map stops v)))
+  mask_within = grind (arith, mask, length-map, long, mask_l-lt)
 
   -- the bit of a lane is clear exactly if its byte passes q
   pub mask_stops : agree_below stops (λ x. not (q x)) 256 ≡ true

@@ -1,17 +1,12 @@
 -- Facts on places in the text, and on the columns of a rest.
-use Rattle.std.proofs.Common.{◌≡◌, ◌⊎◌, inl, inr, ℕ, zero, suc, ◌+◌, ◌-◌, ◌<◌, ◌≤◌, Bool, true, false, ◌==◌, List, ◌∷◌, length, drop, get_or, slice_index}
-use Rattle.std.proofs.Common.{[], Option, Some, None, IsUtf8, IsCharBoundary, if◌then◌else◌, refl, sym, ap, subst, ◌∙◌, arith, length-drop, get_or-drop}
-use Rattle.std.proofs.Common.{drop-drop, eqb-true}
+use Rattle.std.proofs.Common.{◌≡◌, ◌⊎◌, inl, inr, ℕ, zero, suc, ◌+◌, ◌-◌, ◌<◌, ◌≤◌, Bool, true, false, ◌==◌, List, ◌∷◌, length, drop, get_or, slice_index, []}
+use Rattle.std.proofs.Common.{Option, Some, None, IsUtf8, IsCharBoundary, if◌then◌else◌, refl, sym, ap, subst, ◌∙◌, arith, length-drop, get_or-drop, drop-drop}
+use Rattle.std.proofs.Common.{eqb-true}
+use Rattle.first_pass_lines.proofs.Common.{prefix_len, prefix_len_passes, prefix_len-le-length, cases_lt, tab, space, greater_than, ascii_end, nat_tests}
+use Rattle.first_pass_lines.proofs.Common.{begins, ends_line, line_len, is_line_end, is_content, is_white, is_number_sign}
 use Rattle.std.proofs.lemmas.Option.{none-some}
-use Rattle.std.specs.List.{prefix_len}
 use Rattle.std.proofs.lemmas.Str.{IsCharBoundary-after_ascii, IsCharBoundary-end}
-use Rattle.std.proofs.lemmas.List.Sums.{prefix_len_passes, prefix_len-le-length}
-use Rattle.std.proofs.lemmas.Bool.{cases_lt}
-use Rattle.std.proofs.lemmas.Bool.Decides.{nat_tests}
-use Rattle.first_pass_items.specs.Bytes.{tab, space, greater_than, ascii_end}
-use Rattle.first_pass_lines.specs.Lines.{begins, ends_line, line_len, is_line_end, is_content, is_white, is_number_sign}
-use Rattle.first_pass_lines.specs.Rest.{Rest, past_byte, past_bytes, past_quote_byte, past_quote, column_of_byte, column_of, next_column, after_columns}
-use Rattle.first_pass_lines.specs.Rest.{indent}
+use Rattle.first_pass_lines.specs.Rest.{Rest, past_byte, past_bytes, past_quote_byte, past_quote, column_of_byte, column_of, next_column, after_columns, indent}
 use Rattle.first_pass_lines.specs.Places.{Place, place_at, offset, line_place, IsPlaceOf, moved_columns, moved_bytes, line_end, start_of, lines_at}
 use Rattle.first_pass_lines.proofs.LineFacts.{line_len-none, line_len-step, line_len-some, line_len-within, line_len-content_first, lines_at-line}
 use Rattle.first_pass_lines.proofs.LineFacts.{line_len-parts, line_len-inside, lines_at-end}
@@ -63,19 +58,11 @@ byte_at text o k bs h = sym (get_or-drop o text k 0) ∙ ap (λ xs. get_or xs k 
 
 -- the start of a line is a place of the text
 pub line_is_place : (text : List ℕ) (s : ℕ) → IsCharBoundary text s → IsPlaceOf text (line_place s (drop s text))
-line_is_place text s h =
-    let e : s + 0 ≡ s = omega arith in
-    record { left = rw e; within = rw e h.0; boundary = rw e h }
+line_is_place text s h = grind arith
 
 -- after bytes that end on a character boundary, a place is still a place of the text
 pub bytes_keep : (text : List ℕ) (p : Place) (n : ℕ) → IsPlaceOf text p → IsCharBoundary text (offset p + n) → IsPlaceOf text (moved_bytes n p)
-bytes_keep text p n i h =
-    let e : p.line + (p.rest.taken + n) ≡ offset p + n = omega arith in
-    record {
-      left = rw e (ap (drop n) i.left ∙ drop-drop n (offset p) text);
-      within = rw e h.0;
-      boundary = rw e h;
-    }
+bytes_keep text p n i h = grind (arith, drop-drop)
 
 -- so it is after bytes whose last is ASCII
 pub ascii_boundary : (text : List ℕ) (p : Place) (n : ℕ)
@@ -95,9 +82,8 @@ prefix_by : (test : ℕ → Bool) → ((b : ℕ) → test b ≡ true → b < asc
 prefix_by test ascii text p zero u i e = let o : offset p + 0 ≡ offset p = omega arith in bytes_keep text p 0 i (rw o i.boundary)
 prefix_by test ascii text p (suc n) u i e =
     let fits = prefix_len-le-length test p.rest.left in
-    let passes = prefix_len_passes test p.rest.left n 0 (omega arith) in
     let s : suc n ≡ n + 1 = omega arith in
-    rw s (ascii_keeps text p n u i (omega arith) (ascii _ passes))
+    rw s (ascii_keeps text p n u i (omega arith) (ascii _ (prefix_len_passes test p.rest.left n 0 (omega arith))))
 
 -- and after the longest prefix of bytes that pass a test that only ASCII bytes pass
 pub prefix_keeps : (test : ℕ → Bool) → ((b : ℕ) → test b ≡ true → b < ascii_end) → (text : List ℕ) (p : Place) → IsUtf8 text → IsPlaceOf text p
@@ -109,9 +95,7 @@ white_keeps text p u i = prefix_keeps is_white (λ b h. grind (arith, nat_tests,
 
 -- White space after a character boundary ends at one.
 pub white_boundary : (text : List ℕ) (at : ℕ) → IsUtf8 text → IsCharBoundary text at → IsCharBoundary text (at + prefix_len is_white (drop at text))
-white_boundary text at u b =
-    let e : at + (0 + prefix_len is_white (drop at text)) ≡ at + prefix_len is_white (drop at text) = omega arith in
-    subst (IsCharBoundary text) e (white_keeps text (line_place at (drop at text)) u (line_is_place text at b)).boundary
+white_boundary text at u b = subst (IsCharBoundary text) (omega arith) (white_keeps text (line_place at (drop at text)) u (line_is_place text at b)).boundary
 
 pub signs_keep : (text : List ℕ) (p : Place) → IsUtf8 text → IsPlaceOf text p → IsPlaceOf text (moved_bytes (prefix_len is_number_sign p.rest.left) p)
 signs_keep text p u i = prefix_keeps is_number_sign (λ b h. grind (arith, nat_tests, h)) text p u i
@@ -119,13 +103,8 @@ signs_keep text p u i = prefix_keeps is_number_sign (λ b h. grind (arith, nat_t
 -- and after columns
 byte_by : (t u : Bool) (r s : Rest) (b : ℕ) (bs : List ℕ)
     → (b == space) ≡ t → (b == tab) ≡ u → column_of_byte r (b ∷ bs) ≡ Some s → (b < ascii_end) × (s.left ≡ bs) × (s.taken ≡ r.taken + 1) × (is_content b ≡ true)
-byte_by true u r s b bs h h' e =
-    let small = eqb-true b space h in
-    let f : past_byte r bs ≡ s = grind (arith, h, e) in
-    (omega arith, sym (ap (λ x. x.left) f), sym (ap (λ x. x.taken) f), grind (arith, nat_tests, h))
-byte_by false true r s b bs h h' e =
-    let small = eqb-true b tab h' in
-    (omega arith, grind (arith, h, h', e), grind (arith, h, h', e), grind (arith, nat_tests, h'))
+byte_by true u r s b bs h h' e = grind (arith, nat_tests)
+byte_by false true r s b bs h h' e = grind (arith, nat_tests)
 byte_by false false r s b bs h h' e = absurd (grind (arith, h, h', e))
 
 -- What an owed column keeps, and what the column of a space or a tab keeps, all columns keep.
@@ -133,9 +112,7 @@ module _ (P : Rest → Type 0) (owes : (o : ℕ) (r : Rest) → P r → P (recor
     (byte : (b : ℕ) (r s : Rest) → b < ascii_end → is_content b ≡ true → b ∷ s.left ≡ r.left → s.taken ≡ r.taken + 1 → P r → P s) where
   byte_holds : (r s : Rest) (bs : List ℕ) → bs ≡ r.left → column_of_byte r bs ≡ Some s → P r → P s
   byte_holds r s [] e h = absurd (none-some s h)
-  byte_holds r s (b ∷ bs) e h =
-      let m = byte_by (b == space) (b == tab) r s b bs refl refl h in
-      byte b r s m.0 m.3 (ap (λ l. b ∷ l) m.1 ∙ e) m.2
+  byte_holds r s (b ∷ bs) e h = grind (arith, byte_by)
 
   column_holds : (o : ℕ) (r s : Rest) → column_of o r ≡ Some s → P r → P s
   column_holds zero r s h p = byte_holds r s r.left refl h p
@@ -174,13 +151,8 @@ taken_columns text k line r s u e i = subst (λ q. IsPlaceOf text (place_at line
 last_step : (t : Bool) (b : ℕ) (bs : List ℕ)
     → ends_line b bs ≡ t → (0 < length bs → (is_line_end (slice_index bs (line_len bs - 1)) ≡ true) ⊎ (line_len bs ≡ length bs))
     → (is_line_end (slice_index (b ∷ bs) (line_len (b ∷ bs) - 1)) ≡ true) ⊎ (line_len (b ∷ bs) ≡ length (b ∷ bs))
-last_step true b bs h f =
-    let e : line_len (b ∷ bs) ≡ 1 = line_len-step b bs ∙ rw h in
-    let line : is_line_end b ≡ true = grind (arith, nat_tests, h) in
-    inl (rw e line)
-last_step false b [] h f =
-    let e : line_len (b ∷ []) ≡ line_len [] + 1 = line_len-step b [] ∙ rw h in
-    inr (omega (arith, line_len-none))
+last_step true b bs h f = grind (arith, line_len-step, nat_tests)
+last_step false b [] h f = grind (arith, line_len-step, line_len-none)
 last_step false b (c ∷ cs) h f =
     let e : line_len (b ∷ c ∷ cs) ≡ line_len (c ∷ cs) + 1 = line_len-step b (c ∷ cs) ∙ rw h in
     let some = line_len-some (c ∷ cs) (omega arith) in
@@ -199,31 +171,21 @@ end_by text s bs e u l some fits d (inl line) =
     let b = byte_at text s (line_len bs - 1) bs e in
     let k : s + line_len bs ≡ s + (line_len bs - 1) + 1 = omega arith in
     rw k (IsCharBoundary-after_ascii text (s + (line_len bs - 1)) u (omega arith) (omega arith))
-end_by text s bs e u l some fits d (inr all) =
-    let k : s + line_len bs ≡ length text = omega arith in
-    rw k (IsCharBoundary-end text)
+end_by text s bs e u l some fits d (inr all) = grind (arith, IsCharBoundary-end)
 
 pub line_end_boundary : (text : List ℕ) (s : ℕ) → IsUtf8 text → IsCharBoundary text s → s < length text → IsCharBoundary text (s + line_len (drop s text))
-line_end_boundary text s u h l =
-    let w = line_len-within text s l in
-    let d = length-drop s text in
-    end_by text s (drop s text) refl u l w.0 w.1 d (last_of_line (drop s text) (omega arith))
+line_end_boundary text s u h l = grind (arith, line_len-within, length-drop, end_by, last_of_line)
 
 -- the content of a line ends before an ASCII byte, or with the text
 
 -- the same from a later place in the line
 pub place_line_end : (text : List ℕ) (p : Place)
     → IsUtf8 text → IsPlaceOf text p → 0 < length p.rest.left → IsCharBoundary text (offset p + line_len p.rest.left)
-place_line_end text p u i h =
-    let d : length p.rest.left ≡ length text - offset p = ap length i.left ∙ length-drop (offset p) text in
-    rw i.left (line_end_boundary text (offset p) u i.boundary (omega arith))
+place_line_end text p u i h = grind (arith, length-drop, line_end_boundary)
 
 -- the number of bytes from a place to the end of the text
 pub place_length : (text : List ℕ) (p : Place) → IsPlaceOf text p → offset p + length p.rest.left ≡ length text
-place_length text p i =
-    let d : length p.rest.left ≡ length text - offset p = ap length i.left ∙ length-drop (offset p) text in
-    let w = i.within in
-    omega arith
+place_length text p i = grind (arith, length-drop)
 
 -- the end of a line is the same before and after columns or content bytes are taken
 content_first : (b : ℕ) (bs : List ℕ) → is_content b ≡ true → prefix_len is_content (b ∷ bs) ≡ prefix_len is_content bs + 1
@@ -235,12 +197,7 @@ columns_line_end k p =
     (λ b r s small plain left taken e. omega (arith, taken, e, line_len-content_first b s.left plain, ap line_len left)) k p.rest refl
 
 pub bytes_line_end : (n : ℕ) (p : Place) → n ≤ prefix_len is_content p.rest.left → line_end (moved_bytes n p) ≡ line_end p
-bytes_line_end n p w =
-    let all = line_len-parts p.rest.left in
-    elim (cases_lt n (line_len p.rest.left)) [
-      | inl inside ↦ omega (arith, line_len-inside p.rest.left n inside)
-      | inr past ↦ let same : n ≡ prefix_len is_content p.rest.left = omega arith in rw same (omega arith)
-    ]
+bytes_line_end n p w = grind (arith, line_len-parts, cases_lt, line_len-inside)
 
 -- the starts of the lines from an offset on, each on a character boundary
 start_by : (text : List ℕ) (s : ℕ) → s ≤ length text → (s < length text) ⊎ (length text ≤ s) → start_of (length text) (lines_at s (drop s text)) ≡ s
@@ -252,14 +209,7 @@ start_of-lines text s h = start_by text s h (cases_lt s (length text))
 
 quote_byte_by : (t : Bool) (r s : Rest) (b : ℕ) (bs : List ℕ) → (b == greater_than) ≡ t → b ∷ bs ≡ r.left → (if t then Some (past_byte r bs) else None) ≡ Some s
     → (s ≡ past_bytes 1 r) × (0 < length r.left) × (slice_index r.left 0 < ascii_end) × (1 ≤ prefix_len is_content r.left)
-quote_byte_by true r s b bs h e q =
-    let is : b ≡ greater_than = eqb-true b greater_than h in
-    let f : past_byte r bs ≡ s = cc in
-    let g : past_byte r bs ≡ past_bytes 1 r = ap (λ l. record { left = drop 1 l; taken = r.taken + 1; owed = 0; column = r.column + 1 }) e in
-    let n : length r.left ≡ suc (length bs) = ap length (sym e) in
-    let i : slice_index r.left 0 ≡ b = ap (λ l. slice_index l 0) (sym e) in
-    let k : prefix_len is_content r.left ≡ prefix_len is_content bs + 1 = ap (prefix_len is_content) (sym e) ∙ content_first b bs (ap is_content is) in
-    (sym f ∙ g, omega arith, omega arith, omega arith)
+quote_byte_by true r s b bs h e q = grind (arith, content_first)
 quote_byte_by false r s b bs h e q = absurd (none-some s q)
 
 quote_byte : (r s : Rest) (bs : List ℕ) → bs ≡ r.left → past_quote_byte r bs ≡ Some s
@@ -291,8 +241,4 @@ columns_shorter k r =
 
 -- A block quote marker takes at least one byte.
 pub quote_shorter : (r s : Rest) → past_quote r ≡ Some s → length s.left < length r.left
-quote_shorter r s q =
-    let f = quote_by (r.owed == 0) r s q in
-    let some = f.1 in
-    let l : length s.left ≡ length r.left - 1 = ap (λ z. length z.left) f.0 ∙ length-drop 1 r.left in
-    omega arith
+quote_shorter r s q = grind (arith, quote_by, length-drop)

@@ -1,7 +1,6 @@
 -- If no column is owed, n spaces are n columns.
 use Rattle.std.proofs.Common.{◌≡◌, ℕ, true, ◌+◌, ◌<◌, ◌≤◌, zero, suc, List, [], ◌∷◌, length, slice_index, drop, Some, refl, sym, ◌∙◌, ap, arith}
-use Rattle.std.proofs.lemmas.Bool.Decides.{nat_tests}
-use Rattle.first_pass_items.specs.Bytes.{space}
+use Rattle.first_pass_lines.proofs.Common.{space, nat_tests}
 use Rattle.first_pass_lines.specs.Lanes.{is_space}
 use Rattle.first_pass_lines.specs.Rest.{Rest, past_byte, next_column, after_columns, indent, past_bytes}
 use Rattle.first_pass_lines.proofs.Columns.{after-more, indent-some}
@@ -26,9 +25,4 @@ spaces_by (suc n) [] r l o within all = absurd (omega arith)
 spaces_by (suc n) (b ∷ bs) r l o within all =
     let s : Rest = past_byte r bs in
     let next = next_space r b bs l o (all 0 (omega arith)) in
-    let ih = spaces_by n bs s refl refl (omega arith) (λ k low. all (suc k) (omega arith)) in (
-      after-more (suc n) n r s refl next ∙ ih.0
-          ∙ rest_by (drop n bs) (drop (suc n) r.left) (r.taken + 1 + n) (r.taken + suc n) 0 0 (r.column + 1 + n) (r.column + suc n) (sym (ap (drop (suc n)) l))
-          (omega arith) refl (omega arith),
-      omega (arith, indent-some r s next, ih.1),
-    )
+    let ih = spaces_by n bs s refl refl (omega arith) (λ k low. all (suc k) (omega arith)) in grind (arith, after-more, rest_by, indent-some)

@@ -1,12 +1,11 @@
 -- How a line continues the open containers, from the number of open nodes that it continues.
-use Rattle.std.proofs.Common.{◌≡◌, inl, inr, ℕ, ◌+◌, ◌<◌, ◌≤◌, ◌==◌, List, ◌∷◌, length, get_or, reverse, Option, Some, None, is_some, refl, sym, ap, ◌∙◌}
-use Rattle.std.proofs.Common.{arith}
+use Rattle.std.proofs.Common.{◌≡◌, inl, inr, ℕ, ◌+◌, ◌<◌, ◌≤◌, ◌==◌, List, ◌∷◌, length, get_or, reverse, Option, Some, None, is_some, refl, sym, ap, ◌∙◌, arith}
 use Rattle.first_pass_grammar.proofs.Common.{and-true, cases_lt, nat_tests, length-reverse, slice_get-get_or, slice_get_past, Item, Options, Forest, Rest}
 use Rattle.first_pass_grammar.proofs.Common.{after, prefix, continued}
-use Rattle.first_pass_grammar.specs.declared.kind.Container.{Container}
+use Rattle.first_pass_open.proofs.Common.{Container, container_at, prefix_of, with_container, path_in, outer, is_definition_node, definition_at_depth}
+use Rattle.first_pass_open.proofs.Common.{continued_to}
 use Rattle.first_pass_grammar.specs.Containers.{is_definition, at_definition}
 use Rattle.first_pass_grammar.proofs.Sequences.FootnoteHeads.{whole_none}
-use Rattle.first_pass_open.specs.Path.{container_at, prefix_of, with_container, path_in, outer, is_definition_node, definition_at_depth, continued_to}
 use Rattle.first_pass_open.proofs.FrontLemmas.{kept_from, path_to, path_to-more, taken_more, outer-all, root}
 
 stop_by : (c : Container) (path : List Container) (r q : Rest) → after path r ≡ Some q → prefix c q ≡ None → at_definition (c ∷ path) r ≡ is_definition c

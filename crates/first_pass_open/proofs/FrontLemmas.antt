@@ -1,10 +1,9 @@
 -- How far a line continues the open nodes.
-use Rattle.std.proofs.Common.{◌≡◌, ℕ, zero, suc, ◌+◌, ◌-◌, ◌<◌, ◌≤◌, List, [], ◌∷◌, length, get_or, drop, reverse, Option, Some, None, inl, inr, refl, sym}
-use Rattle.std.proofs.Common.{ap, ◌∙◌, subst, arith, option_map, option_and_then, slice_get}
+use Rattle.std.proofs.Common.{◌≡◌, ℕ, zero, suc, ◌+◌, ◌-◌, ◌<◌, ◌≤◌, List, [], ◌∷◌, length, get_or, drop, reverse, Option, Some, None, inl, inr, refl, sym, ap}
+use Rattle.std.proofs.Common.{◌∙◌, subst, arith, option_map, option_and_then, slice_get}
 use Rattle.first_pass_grammar.proofs.Common.{cases_lt, drop_more, drop_all, get_or-reverse, length-map, length-reverse, Item, TreeIndex, IsOpenPath, depths}
 use Rattle.first_pass_grammar.proofs.Common.{Rest, after, front, Options, body_of}
-use Rattle.first_pass_grammar.specs.declared.kind.Container.{Container}
-use Rattle.first_pass_open.specs.Path.{container_of, container_at, prefix_of, with_container, path_in, outer}
+use Rattle.first_pass_open.proofs.Common.{Container, container_of, container_at, prefix_of, with_container, path_in, outer}
 
 pub after_step : (c : Option Container) (path : List Container) (r q : Rest) → after path r ≡ Some q → after (with_container c path) r ≡ prefix_of c q
 unfolding after

@@ -1,3 +1,4 @@
+pub mod Common
 pub mod BlankPlaces
 pub mod PathLemmas
 pub mod ContinuedLemmas

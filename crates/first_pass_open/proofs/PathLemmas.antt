@@ -1,13 +1,12 @@
 -- The containers among the open nodes, while nodes are added and opened; and a path at the end of the text.
-use Rattle.std.proofs.Common.{◌≡◌, ◌⊎◌, inl, inr, ℕ, zero, suc, ◌+◌, ◌<◌, ◌≤◌, Bool, true, false, List, [], ◌∷◌, ◌++◌, length, slice_get, Option}
-use Rattle.std.proofs.Common.{if◌then◌else◌, MatchOption, is_some, Some, None, refl, ap, subst, ◌∙◌, arith, length-append}
+use Rattle.std.proofs.Common.{◌≡◌, ◌⊎◌, inl, inr, ℕ, zero, suc, ◌+◌, ◌<◌, ◌≤◌, Bool, true, false, List, [], ◌∷◌, ◌++◌, length, slice_get, Option, if◌then◌else◌}
+use Rattle.std.proofs.Common.{MatchOption, is_some, Some, None, refl, ap, subst, ◌∙◌, arith, length-append}
 use Rattle.first_pass_grammar.proofs.Common.{or-true, nat_tests, length-map, Item, TreeIndex, Forest, IsOpenPath, depths, appended, pushed, at_depth}
-use Rattle.first_pass_grammar.proofs.Common.{at_line_end, Rest, column_of_byte, after_columns, after-none, line_rest, chained, leaves}
-use Rattle.first_pass_grammar.proofs.Common.{chained-spine, chained-nodes, has_columns, is_quote, prefix, after, front, Options}
+use Rattle.first_pass_grammar.proofs.Common.{at_line_end, Rest, column_of_byte, after_columns, after-none, line_rest, chained, leaves, chained-spine}
+use Rattle.first_pass_grammar.proofs.Common.{chained-nodes, has_columns, is_quote, prefix, after, front, Options}
+use Rattle.first_pass_open.proofs.Common.{Container, BlockQuote, ListItem, container_of, prefix_of, columns_needed, is_quote_node, with_container, path_in}
+use Rattle.first_pass_open.proofs.Common.{path_of}
 use Rattle.first_pass_grammar.proofs.Names.MoreNames.{get_front}
-use Rattle.first_pass_grammar.specs.declared.kind.Container.{Container}
-use Rattle.first_pass_grammar.specs.declared.kind.Container.TheVariants.{BlockQuote, ListItem}
-use Rattle.first_pass_open.specs.Path.{container_of, prefix_of, columns_needed, is_quote_node, with_container, path_in, path_of}
 
 -- each of these open nodes is one of the first n nodes
 abbrev pub AreIn : ℕ → List TreeIndex → Type 0

@@ -1,18 +1,13 @@
 -- What is taken from a line, indentation, prefixes or markers, ends at a place of the text in the same line.
-use Rattle.std.proofs.Common.{◌≡◌, inl, inr, ◌≤◌, ℕ, ◌+◌, ◌<◌, zero, suc, Bool, true, if◌then◌else◌, List, [], ◌∷◌, length, drop, MatchOption, Option}
-use Rattle.std.proofs.Common.{Some, None, IsUtf8, IsCharBoundary, refl, sym, ap, subst, ◌∙◌, arith}
-use Rattle.first_pass_grammar.proofs.Common.{drop_all, cases_lt, cond_some, Item, Options, has, is_task_marker, line_len}
-use Rattle.first_pass_grammar.proofs.Common.{task_of, IsMarked, Rest, next_column, after_columns}
-use Rattle.first_pass_grammar.proofs.Common.{indent, past_quote, Place, line_rest, place_at, offset, line_end, IsPlaceOf, after-more, after-none}
-use Rattle.first_pass_grammar.proofs.Common.{line_is_place, columns_keep, columns_line_end, has_columns, prefix, after, or_shorter, front}
-use Rattle.first_pass_grammar.proofs.Common.{all_taken, unindented, definition_marker_at, task_by, task_after, some_if, some_mapped, same_Some}
-use Rattle.std.proofs.lemmas.Option.{option_and_then_some}
-use Rattle.first_pass_scan.proofs.MarkerPlaces.{task-marked, marked-keeps, marked-line_end}
+use Rattle.std.proofs.Common.{◌≡◌, inl, inr, ◌≤◌, ℕ, ◌+◌, ◌<◌, zero, suc, Bool, true, if◌then◌else◌, List, [], ◌∷◌, length, drop, MatchOption, Option, Some}
+use Rattle.std.proofs.Common.{None, IsUtf8, IsCharBoundary, refl, sym, ap, subst, ◌∙◌, arith}
+use Rattle.first_pass_grammar.proofs.Common.{drop_all, cases_lt, cond_some, Item, Options, has, is_task_marker, line_len, task_of, IsMarked, Rest, next_column}
+use Rattle.first_pass_grammar.proofs.Common.{after_columns, indent, past_quote, Place, line_rest, place_at, offset, line_end, IsPlaceOf, after-more, after-none}
+use Rattle.first_pass_grammar.proofs.Common.{line_is_place, columns_keep, columns_line_end, has_columns, prefix, after, or_shorter, front, all_taken}
+use Rattle.first_pass_grammar.proofs.Common.{unindented, definition_marker_at, task_by, task_after, some_if, some_mapped, same_Some}
+use Rattle.first_pass_open.proofs.Common.{Container, BlockQuote, all-more, option_and_then_some, task-marked, marked-keeps, marked-line_end}
 use Rattle.first_pass_lines.proofs.LineFacts.{line_len-none}
-use Rattle.first_pass_lines.proofs.Columns.{all-more}
 use Rattle.first_pass_lines.proofs.PlaceFacts.{place_line_end, quote_keeps, quote_line_end}
-use Rattle.first_pass_grammar.specs.declared.kind.Container.{Container}
-use Rattle.first_pass_grammar.specs.declared.kind.Container.TheVariants.{BlockQuote}
 use Rattle.first_pass_grammar.specs.Kinds.{item_at}
 use Rattle.first_pass_grammar.proofs.Sequences.PlacesKept.{marked_less, item_marked, marked_definition, item_shorter}
 

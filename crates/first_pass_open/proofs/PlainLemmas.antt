@@ -3,13 +3,10 @@
 use Rattle.std.proofs.Common.{◌≡◌, min, true, Bool, List, [], ◌∷◌, not, Option, Some, None, is_some, refl, sym, ap, ◌∙◌, if◌then◌else◌}
 use Rattle.first_pass_grammar.proofs.Common.{not-true, cond_some, none-some, none_is, BlockQuoteKind, Rest, next_column, indent, begins_plain, inert_indent}
 use Rattle.first_pass_grammar.proofs.Common.{after, prefix, all_taken}
-use Rattle.std.proofs.lemmas.Option.{option_and_then_some}
-use Rattle.first_pass_lines.proofs.Columns.{all-none}
+use Rattle.first_pass_open.proofs.Common.{Container, BlockQuote, all-none, option_and_then_some}
 use Rattle.first_pass_lines.specs.Plain.{begins_inert}
 use Rattle.first_pass_scan.proofs.ColumnFacts.{no_column}
 use Rattle.first_pass_scan.proofs.PlainFacts.{plain_after, inert_after, inert_quote, inert_item}
-use Rattle.first_pass_grammar.specs.declared.kind.Container.{Container}
-use Rattle.first_pass_grammar.specs.declared.kind.Container.TheVariants.{BlockQuote}
 use Rattle.first_pass_grammar.specs.Kinds.{item_at}
 
 pub plain_all : (r : Rest) → r.owed ≡ 0 → begins_plain r.left ≡ true → all_taken r ≡ r

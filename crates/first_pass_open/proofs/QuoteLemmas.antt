@@ -1,10 +1,10 @@
 -- A line of which only its end is left continues every open node that is no block quote.
-use Rattle.std.proofs.Common.{◌≡◌, ℕ, zero, suc, ◌+◌, ◌-◌, ◌<◌, ◌≤◌, ◌||◌, false, List, [], ◌∷◌, ◌++◌, length, get_or, take, reverse, Option, Some, None}
-use Rattle.std.proofs.Common.{refl, sym, ap, ◌∙◌, arith, option_map, slice_get, take-append-drop}
+use Rattle.std.proofs.Common.{◌≡◌, ℕ, zero, suc, ◌+◌, ◌-◌, ◌<◌, ◌≤◌, ◌||◌, false, List, [], ◌∷◌, ◌++◌, length, get_or, take, reverse, Option, Some, None, refl}
+use Rattle.std.proofs.Common.{sym, ap, ◌∙◌, arith, option_map, slice_get, take-append-drop}
 use Rattle.first_pass_grammar.proofs.Common.{or_parts, take_more, get_or-reverse, Item, Options, TreeIndex, Forest, at_depth, Rest, chained, leaves}
 use Rattle.first_pass_grammar.proofs.Common.{chained-spine, chained-nodes, is_quote, after}
-use Rattle.first_pass_grammar.specs.declared.kind.Container.{Container}
-use Rattle.first_pass_open.specs.Path.{container_of, container_at, with_container, path_in, path_of, outer, inner, is_quote_node, has_quote, has_quote_after}
+use Rattle.first_pass_open.proofs.Common.{Container, container_of, container_at, with_container, path_in, path_of, outer, inner, is_quote_node, has_quote}
+use Rattle.first_pass_open.proofs.Common.{has_quote_after}
 use Rattle.first_pass_open.proofs.PathLemmas.{AreIn, path_in-append, IsOver, passed}
 use Rattle.first_pass_open.proofs.FrontLemmas.{after_step, container_is, root, in_spine}
 

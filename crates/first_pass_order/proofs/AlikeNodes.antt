@@ -1,18 +1,18 @@
 -- Nodes that differ only in what changes when nodes are closed and blank lines are noted: whether a list is loose,
 -- the indent of an item, and the meaning of a paragraph.
-use Rattle.std.proofs.Common.{◌≡◌, ℕ, zero, suc, ◌+◌, ◌==◌, Bool, true, false, if◌then◌else◌, List, [], ◌∷◌, nat_lt, slice_index, slice_get, Option, Some}
-use Rattle.std.proofs.Common.{None, is_some, refl, ap, ◌∙◌, bit_and, option_and_then}
+use Rattle.std.proofs.Common.{◌≡◌, ℕ, zero, suc, ◌+◌, ◌==◌, Bool, true, false, if◌then◌else◌, List, [], ◌∷◌, nat_lt, slice_index, slice_get, Option, Some, None}
+use Rattle.std.proofs.Common.{is_some, refl, ap, ◌∙◌, bit_and, option_and_then}
 use Rattle.first_pass_grammar.proofs.Common.{cond_both, same_Some, Item, ItemBody, Paragraph, DefinitionList, DefinitionListDefinition, DefinitionListTitle}
 use Rattle.first_pass_grammar.proofs.Common.{MaybeDefinitionListTitle, TreeIndex, body_of, Forest, depths, modify, with_body_at, body_at, item_at, pushed}
-use Rattle.first_pass_grammar.proofs.Common.{tight_body, tightened, tight_run, tight_at, tight_items, list_flags, is_row, is_cell, Names, index_of, Mark}
-use Rattle.first_pass_grammar.proofs.Common.{shown, may_be_title, CowIndex}
+use Rattle.first_pass_grammar.proofs.Common.{tight_body, tightened, tight_run, tight_at, tight_items, list_flags, is_row, is_cell, Names, index_of, Mark, shown}
+use Rattle.first_pass_grammar.proofs.Common.{may_be_title, CowIndex}
+use Rattle.first_pass_order.proofs.Common.{PassState}
 use Rattle.first_pass_items.specs.declared.item.ItemBody.TheVariants.{List as ListBody, ListItem as ListItemBody}
 use Rattle.first_pass_tree.specs.Forest.{wrapped}
 use Rattle.first_pass_grammar.specs.Names.{Index}
 use Rattle.first_pass_lists.specs.Closing.{is_list, is_item, is_definition_list, top_body, loosened_by, loosened_at, popped_by, gap_tree, gap_marked}
 use Rattle.first_pass_lists.specs.Closing.{item_without_indent, definition_without_indent, blank_read_by, blank_read, definitions_by, definitions_at}
 use Rattle.first_pass_lists.specs.Closing.{loosened_top, list_kept, definitions_opened, with_current}
-use Rattle.first_pass_lists.specs.declared.state.PassState.{PassState}
 use Rattle.first_pass_order.specs.Footnotes.{footnote_in}
 use Rattle.first_pass_order.proofs.OrderLemmas.{flags_of}
 

@@ -2,22 +2,18 @@
 -- or two, with a byte for each.
 use Rattle.std.proofs.Common.{◌≡◌, ℕ, zero, suc, ◌+◌, ◌<◌, ◌≤◌, Bool, false, if◌then◌else◌, List, [], ◌∷◌, ◌++◌, length, map, take, drop, Option, Some, None}
 use Rattle.std.proofs.Common.{is_some, refl, ap, ◌∙◌, arith}
-use Rattle.first_pass_grammar.proofs.Common.{cases_Bool, Options, Item, ItemBody, Paragraph, TreeIndex, Forest, body_at, map_from, deeper, shallower}
-use Rattle.first_pass_grammar.proofs.Common.{with_end, body_of, blank_len, task_of, Rest, Place, place_at, offset, line_end, IsPlaceOf, line_len-some}
-use Rattle.first_pass_grammar.proofs.Common.{place_length, Kind, Blank, first_kind, IsKind, task_by, task_after, is_cell, is_row, is_inserted_after, own}
-use Rattle.first_pass_grammar.proofs.Common.{counted_nodes, GrowsBy, CowIndex}
+use Rattle.first_pass_grammar.proofs.Common.{cases_Bool, Options, Item, ItemBody, Paragraph, TreeIndex, Forest, body_at, map_from, deeper, shallower, with_end}
+use Rattle.first_pass_grammar.proofs.Common.{body_of, blank_len, task_of, Rest, Place, place_at, offset, line_end, IsPlaceOf, line_len-some, place_length, Kind}
+use Rattle.first_pass_grammar.proofs.Common.{Blank, first_kind, IsKind, task_by, task_after, is_cell, is_row, is_inserted_after, own, counted_nodes, GrowsBy}
+use Rattle.first_pass_grammar.proofs.Common.{CowIndex}
+use Rattle.first_pass_order.proofs.Common.{PassState, with_child, begun_item, item_opened, option_on, task_shorter, AddsBetween}
 use Rattle.first_pass_grammar.specs.Counting.{last_cell}
 use Rattle.first_pass_grammar.proofs.Count.CountedNodes.{alike_first, own_first, own_ended, own_changed, own_one, own_added}
-use Rattle.first_pass_open.specs.OpenBlock.{with_child, begun_item}
-use Rattle.first_pass_open.proofs.PlaceLemmas.{option_on, task_shorter}
-use Rattle.first_pass_lists.specs.Closing.{popped_at, popped, empty_item_closed, list_finished, begun, blank_read, footnote_begun, current_body}
-use Rattle.first_pass_lists.specs.Closing.{current_moved, definitions_closed, definitions_left, title_begun, definitions_opened, definition_begun}
-use Rattle.first_pass_lists.specs.declared.state.PassState.{PassState}
+use Rattle.first_pass_lists.specs.Closing.{popped_at, popped, empty_item_closed, list_finished, begun, blank_read, footnote_begun, current_body, current_moved}
+use Rattle.first_pass_lists.specs.Closing.{definitions_closed, definitions_left, title_begun, definitions_opened, definition_begun}
 use Rattle.first_pass_order.proofs.AlikeNodes.{AreAlike, NoNodes, OneMore, titled, opened_both, current_like, like_blank}
 use Rattle.first_pass_order.proofs.PropertyKept.{Property, HoldsAt, HoldsBefore, popped_at_keeps, popped_keeps, empty_item_closed_keeps, noted_keeps}
 use Rattle.first_pass_order.proofs.PropertyKept.{list_finished_keeps, quote_keeps, item_keeps, note_keeps, definition_keeps}
-use Rattle.first_pass_open.specs.Between.{AddsBetween}
-use Rattle.first_pass_lists.proofs.NoEmptyItem.{item_opened}
 
 -- the number of counted nodes in the state
 abbrev pub count : PassState → ℕ

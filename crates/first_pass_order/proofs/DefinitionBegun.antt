@@ -1,22 +1,19 @@
 -- Order at the start of a definition: its list is open, a new one in the place of the paragraph that becomes its
 -- title.
-use Rattle.std.proofs.Common.{◌≡◌, ℕ, zero, suc, ◌+◌, ◌<◌, ◌≤◌, true, false, List, [], ◌∷◌, ◌++◌, length, map, take, drop, Some, IsCharBoundary, refl}
-use Rattle.std.proofs.Common.{sym, ap, subst, ◌∙◌, arith, length-append, append_assoc, append-nil, true≢false, length-take-le, option_and_then, option_map}
+use Rattle.std.proofs.Common.{◌≡◌, ℕ, zero, suc, ◌+◌, ◌<◌, ◌≤◌, true, false, List, [], ◌∷◌, ◌++◌, length, map, take, drop, Some, IsCharBoundary, refl, sym, ap}
+use Rattle.std.proofs.Common.{subst, ◌∙◌, arith, length-append, append_assoc, append-nil, true≢false, length-take-le, option_and_then, option_map}
 use Rattle.first_pass_grammar.proofs.Common.{not-true, Item, ItemBody, Paragraph, DefinitionList, DefinitionListTitle, DefinitionListDefinition, TreeIndex}
 use Rattle.first_pass_grammar.proofs.Common.{Forest, IsForest, IsOpenPath, IsLastAt, modify, body_at, item_at, deeper, modify-at, body-other, body_of}
-use Rattle.first_pass_grammar.proofs.Common.{last-order, length-modify, list_flags, Ranged, extent_of, extents, is_task_marker, is_text_block, Siblings}
-use Rattle.first_pass_grammar.proofs.Common.{Empty, laid, laid_open, AreAt, FitsOpen, IsOrderedTo}
+use Rattle.first_pass_grammar.proofs.Common.{last-order, length-modify, list_flags, Ranged, extent_of, extents, is_task_marker, is_text_block, Siblings, Empty}
+use Rattle.first_pass_grammar.proofs.Common.{laid, laid_open, AreAt, FitsOpen, IsOrderedTo}
+use Rattle.first_pass_order.proofs.Common.{PassState, top_of, AreNested, AreIn, other_list}
 use Rattle.first_pass_grammar.specs.Order.{is_list_item, is_definition_list, Node}
 use Rattle.first_pass_grammar.proofs.Order.Orders.{extents-append, laid_open-popped, laid_open-level, length-places}
-use Rattle.first_pass_open.proofs.PathLemmas.{AreIn}
 use Rattle.first_pass_order.proofs.RowSplits.{current_child, fits_open_titled, as_list, open_definitions, laid-deeper, extents-mapped, extents-split}
-use Rattle.first_pass_lists.specs.Closing.{with_tree, top_body, current_body, is_list, precedes_definition, may_begin_definition, list_kept}
-use Rattle.first_pass_lists.specs.Closing.{definitions_opened, definition_begun, is_definition_list as is_definitions}
-use Rattle.first_pass_lists.specs.declared.state.PassState.{PassState}
-use Rattle.first_pass_order.specs.Ordered.{top_of, AreNested}
+use Rattle.first_pass_lists.specs.Closing.{with_tree, top_body, current_body, is_list, precedes_definition, may_begin_definition, list_kept, definitions_opened}
+use Rattle.first_pass_lists.specs.Closing.{definition_begun, is_definition_list as is_definitions}
 use Rattle.first_pass_order.proofs.AlikeNodes.{class_of, titled, opened_both, like_kept}
 use Rattle.first_pass_order.proofs.Nests.{nested_before, top_before, IsSettled, begun_settled, like_nested}
-use Rattle.first_pass_lists.proofs.ListKinds.{other_list}
 use Rattle.first_pass_order.proofs.OrderLemmas.{ordered_same, list_extent, extents-changed, top_there}
 use Rattle.first_pass_order.proofs.LeftOrder.{extents_alike, order_kept}
 use Rattle.first_pass_order.proofs.PropertyKept.{body_inside, definition_keeps}

@@ -2,18 +2,16 @@
 -- that is no title is moved out of its list.
 use Rattle.std.proofs.Common.{◌≡◌, ℕ, suc, ◌+◌, ◌<◌, ◌≤◌, not, is_some, Bool, true, false, if◌then◌else◌, List, [], ◌∷◌, ◌++◌, length, take, drop, slice_get}
 use Rattle.std.proofs.Common.{Option, Some, None, IsCharBoundary, refl, sym, ap, subst, ◌∙◌, arith, length-append, IsSomeAnd, option_and_then, option_map}
-use Rattle.first_pass_grammar.proofs.Common.{and_parts, take-append_seam, drop-append_seam, option_map_or, Item, Paragraph, MaybeDefinitionListTitle}
-use Rattle.first_pass_grammar.proofs.Common.{TreeIndex, Forest, IsForest, modify, with_body_at, with_end_at, body_at, item_at, at_depth, added, with_end}
-use Rattle.first_pass_grammar.proofs.Common.{body-kept, body-changed, Ranged, extent_of, extents, is_task_marker, laid, Elsewhere, InItem, FitsBetween}
-use Rattle.first_pass_grammar.proofs.Common.{laid_open, AreAt, open_within, FitsOpen, within_top, IsOrderedTo, length-modify}
+use Rattle.first_pass_grammar.proofs.Common.{and_parts, take-append_seam, drop-append_seam, option_map_or, Item, Paragraph, MaybeDefinitionListTitle, TreeIndex}
+use Rattle.first_pass_grammar.proofs.Common.{Forest, IsForest, modify, with_body_at, with_end_at, body_at, item_at, at_depth, added, with_end, body-kept}
+use Rattle.first_pass_grammar.proofs.Common.{body-changed, Ranged, extent_of, extents, is_task_marker, laid, Elsewhere, InItem, FitsBetween, laid_open, AreAt}
+use Rattle.first_pass_grammar.proofs.Common.{open_within, FitsOpen, within_top, IsOrderedTo, length-modify}
+use Rattle.first_pass_order.proofs.Common.{PassState, closed_none, top_of, AreNested, EndsBeforeTitle, CanClose, IsReadTo, AddsBetween}
 use Rattle.first_pass_grammar.proofs.Order.Orders.{ended_at, extents-append, length-extents, extents-at_depth, laid-at_depth, laid_open-level, below_ended}
 use Rattle.first_pass_grammar.proofs.Order.Orders.{extents-ended, between-any}
 use Rattle.first_pass_order.proofs.RowSplits.{current_child, open_last_fits, extents-split}
-use Rattle.first_pass_open.specs.Between.{AddsBetween}
 use Rattle.first_pass_lists.specs.Closing.{with_tree, gap_marked, top_body, current_body, top_end, definitions_closed, possible_title, definitions_left}
 use Rattle.first_pass_lists.specs.Closing.{title_begun, is_after_definition, is_definition_list as is_definitions}
-use Rattle.first_pass_lists.specs.declared.state.PassState.{PassState}
-use Rattle.first_pass_order.specs.Ordered.{top_of, AreNested, EndsBeforeTitle, CanClose, IsReadTo}
 use Rattle.first_pass_order.proofs.Nests.{classed_ended, nested_classed, like_nested, definitions_are, title_there, definitions_closed_outside, noted_outside}
 use Rattle.first_pass_order.proofs.Nests.{outside_closes, nested_front, top_front}
 use Rattle.first_pass_order.proofs.OrderLemmas.{ordered_with, ordered_same, ordered_added, ordered_none, inner}
@@ -21,7 +19,6 @@ use Rattle.first_pass_order.proofs.PopOrder.{noted_empty}
 use Rattle.first_pass_order.proofs.AlikeNodes.{alike_ended, LooksAlike, like_itself, like_body}
 use Rattle.first_pass_order.proofs.PropertyKept.{IsLeft, is_left, noted_keeps}
 use Rattle.first_pass_order.proofs.LeftOrder.{extents_alike, order_kept, modify-front, end_there, left_ordered}
-use Rattle.first_pass_lists.proofs.NoEmptyItem.{closed_none}
 
 -- the innermost open node has another end
 ordered_reended : (text : List ℕ) (f : Forest Item) (a e : ℕ) (ix : TreeIndex) (rest : List TreeIndex) → f.spine ≡ ix ∷ rest → IsOrderedTo text f a

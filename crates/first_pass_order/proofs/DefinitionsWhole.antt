@@ -1,15 +1,12 @@
 -- Tables stay whole when a definition begins, and when a possible title is kept.
-use Rattle.std.proofs.Common.{◌≡◌, ℕ, zero, suc, ◌+◌, ◌<◌, true, false, List, [], ◌∷◌, ◌++◌, length, map, take, drop, slice_get, Option, Some, None, refl}
-use Rattle.std.proofs.Common.{sym, ap, subst, ◌∙◌, arith, IsSomeAnd}
-use Rattle.first_pass_grammar.proofs.Common.{option_map_or, Item, ItemBody, Paragraph, DefinitionList, DefinitionListTitle, MaybeDefinitionListTitle}
-use Rattle.first_pass_grammar.proofs.Common.{TreeIndex, Forest, IsForest, modify, with_end, body_at, item_at, deeper, body-kept, body-changed, body_of}
-use Rattle.first_pass_grammar.proofs.Common.{list_flags, Names, marks, ShowsNothing, SilentFrom, may_be_title, HasWholeTables}
-use Rattle.first_pass_grammar.specs.WholeTables.{HaveNoRows, IsSilentLast}
-use Rattle.first_pass_grammar.proofs.WholeTables.WholeForests.{whole_same}
+use Rattle.std.proofs.Common.{◌≡◌, ℕ, zero, suc, ◌+◌, ◌<◌, true, false, List, [], ◌∷◌, ◌++◌, length, map, take, drop, slice_get, Option, Some, None, refl, sym}
+use Rattle.std.proofs.Common.{ap, subst, ◌∙◌, arith, IsSomeAnd}
+use Rattle.first_pass_grammar.proofs.Common.{option_map_or, Item, ItemBody, Paragraph, DefinitionList, DefinitionListTitle, MaybeDefinitionListTitle, TreeIndex}
+use Rattle.first_pass_grammar.proofs.Common.{Forest, IsForest, modify, with_end, body_at, item_at, deeper, body-kept, body-changed, body_of, list_flags, Names}
+use Rattle.first_pass_grammar.proofs.Common.{marks, ShowsNothing, SilentFrom, may_be_title, HasWholeTables}
+use Rattle.first_pass_order.proofs.Common.{PassState, AreIn, whole_same, HaveNoRows, IsSilentLast}
 use Rattle.first_pass_completion.proofs.SilentNodes.{marks_modified, none_shown, from_at, from_modified, each_from}
-use Rattle.first_pass_open.proofs.PathLemmas.{AreIn}
 use Rattle.first_pass_lists.specs.Closing.{current_body, with_current, title_begun, definition_begun}
-use Rattle.first_pass_lists.specs.declared.state.PassState.{PassState}
 use Rattle.first_pass_order.proofs.AlikeNodes.{titled, opened_both, current_like}
 use Rattle.first_pass_order.proofs.DefinitionBegun.{current_past, titled_at, titled_front}
 use Rattle.first_pass_order.proofs.PropertyKept.{definition_keeps}

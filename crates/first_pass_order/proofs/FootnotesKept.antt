@@ -3,27 +3,20 @@
 use Rattle.std.proofs.Common.{◌≡◌, ℕ, zero, suc, ◌+◌, ◌||◌, Bool, true, List, [], ◌∷◌, ◌++◌, length, map, take, drop, slice_get, Option, Some, None, IfSome}
 use Rattle.std.proofs.Common.{refl, sym, ap, ap₂, subst, ◌∙◌, append_assoc, append-nil}
 use Rattle.first_pass_grammar.proofs.Common.{false≢true, same_Some, CowIndex, Item, ItemBody, Paragraph, FootnoteDefinition, DefinitionList}
-use Rattle.first_pass_grammar.proofs.Common.{MaybeDefinitionListTitle, TreeIndex, Forest, empty_forest, modify, with_end_at, with_end, with_body_at, body_at, body_of}
-use Rattle.first_pass_grammar.proofs.Common.{added, at_depth, map_from, deeper, shallower, list_flags, is_task_marker, is_row, is_cell, Options}
-use Rattle.first_pass_grammar.proofs.Common.{Place, line_end, Kind, Document, document, lines_from, Names, Taken, IsText, AreEachNode}
-use Rattle.first_pass_grammar.specs.declared.kind.Container.{Container}
+use Rattle.first_pass_grammar.proofs.Common.{MaybeDefinitionListTitle, TreeIndex, Forest, empty_forest, modify, with_end_at, with_end, with_body_at, body_at}
+use Rattle.first_pass_grammar.proofs.Common.{body_of, added, at_depth, map_from, deeper, shallower, list_flags, is_task_marker, is_row, is_cell, Options, Place}
+use Rattle.first_pass_grammar.proofs.Common.{line_end, Kind, Document, document, lines_from, Names, Taken, IsText, AreEachNode}
+use Rattle.first_pass_order.proofs.Common.{PassState, with_child, begun_item, item_opened, Container, path_of, extends_none, AddsKind, block_nodes}
 use Rattle.first_pass_grammar.proofs.Each.EachBlock.{is_first, is_later, HoldsOfBlocks, HoldsOfLeaves, table_nodes, text_holds, leaf_holds}
-use Rattle.first_pass_grammar.proofs.Each.EachCell.{block_nodes}
 use Rattle.first_pass_grammar.proofs.Sequences.PlacesKept.{Anywhere, anywhere_kept, each_anywhere}
 use Rattle.first_pass_grammar.specs.Blocks.{leaf_block}
 use Rattle.first_pass_grammar.specs.Skeleton.{Line, OpensLeaf}
-use Rattle.first_pass_names.proofs.NameLemmas.{extends_none}
-use Rattle.first_pass_open.specs.OpenBlock.{with_child, begun_item}
-use Rattle.first_pass_open.specs.Path.{path_of}
-use Rattle.first_pass_lists.specs.Closing.{list_closed, popped, empty_item_closed, list_finished, begun, blank_read, footnote_begun, footnote_left}
-use Rattle.first_pass_lists.specs.Closing.{gap_marked, current_body, with_current, title_begun, definition_begun}
-use Rattle.first_pass_lists.specs.declared.state.PassState.{PassState}
-use Rattle.first_pass_lists.proofs.NoEmptyItem.{item_opened}
+use Rattle.first_pass_lists.specs.Closing.{list_closed, popped, empty_item_closed, list_finished, begun, blank_read, footnote_begun, footnote_left, gap_marked}
+use Rattle.first_pass_lists.specs.Closing.{current_body, with_current, title_begun, definition_begun}
 use Rattle.first_pass_order.specs.Footnotes.{footnote_in, footnotes_in}
-use Rattle.first_pass_order.specs.LeafBlocks.{AddsKind}
 use Rattle.first_pass_order.proofs.AlikeNodes.{AreAlike, NoNodes, OneMore, opened_both, current_like, like_blank}
-use Rattle.first_pass_order.proofs.PropertyKept.{Property, HoldsAt, HoldsBefore, popped_keeps, empty_item_closed_keeps, list_finished_keeps}
-use Rattle.first_pass_order.proofs.PropertyKept.{quote_keeps, item_keeps, note_left_keeps, definition_keeps}
+use Rattle.first_pass_order.proofs.PropertyKept.{Property, HoldsAt, HoldsBefore, popped_keeps, empty_item_closed_keeps, list_finished_keeps, quote_keeps}
+use Rattle.first_pass_order.proofs.PropertyKept.{item_keeps, note_left_keeps, definition_keeps}
 
 -- the indices of the state's nodes
 abbrev pub notes : PassState → List CowIndex

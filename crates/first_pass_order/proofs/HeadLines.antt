@@ -2,9 +2,8 @@
 use Rattle.std.proofs.Common.{◌≡◌, inl, inr, ℕ, ◌+◌, ◌<◌, ◌&&◌, not, List, [], length, drop, Some, None, refl, ap, arith, length-drop, option_and_then}
 use Rattle.first_pass_grammar.proofs.Common.{cases_lt, drop_all, none-some, has, tables, Alignment, line_len, Place, line_rest, offset, IsPlaceOf, some_if}
 use Rattle.first_pass_grammar.proofs.Common.{Context, after, table_at, ends_in_backslash, headed_table}
+use Rattle.first_pass_order.proofs.Common.{after-end, Container}
 use Rattle.first_pass_scan.specs.TableHead.{stripped, delimiter_row, delimiter_row_of}
-use Rattle.first_pass_grammar.specs.declared.kind.Container.{Container}
-use Rattle.first_pass_open.proofs.PathLemmas.{after-end}
 
 -- At the end of the text, no delimiter row follows the prefixes of a path.
 row_after : (path : List Container) → option_and_then delimiter_row_of (after path (line_rest [])) ≡ None

@@ -1,14 +1,12 @@
 -- Order when a definition list is closed before its last child, which is moved out of it.
-use Rattle.std.proofs.Common.{◌≡◌, ℕ, zero, suc, ◌<◌, ◌≤◌, false, List, [], ◌∷◌, ◌++◌, length, take, drop, slice_get, None, IsCharBoundary, refl, sym, ap}
-use Rattle.std.proofs.Common.{◌∙◌, arith, take-append-drop, length-take-le, option_map}
-use Rattle.first_pass_grammar.proofs.Common.{slice_get_within, option_map_or, Item, TreeIndex, Forest, modify, Ranged, extents, Siblings, laid, Elsewhere}
-use Rattle.first_pass_grammar.proofs.Common.{Fits, within_top, IsOrderedTo, length-modify}
+use Rattle.std.proofs.Common.{◌≡◌, ℕ, zero, suc, ◌<◌, ◌≤◌, false, List, [], ◌∷◌, ◌++◌, length, take, drop, slice_get, None, IsCharBoundary, refl, sym, ap, ◌∙◌}
+use Rattle.std.proofs.Common.{arith, take-append-drop, length-take-le, option_map}
+use Rattle.first_pass_grammar.proofs.Common.{slice_get_within, option_map_or, Item, TreeIndex, Forest, modify, Ranged, extents, Siblings, laid, Elsewhere, Fits}
+use Rattle.first_pass_grammar.proofs.Common.{within_top, IsOrderedTo, length-modify}
+use Rattle.first_pass_order.proofs.Common.{PassState, closed_by, EndsBeforeTitle, IsOrderedAt}
 use Rattle.first_pass_grammar.proofs.Order.Orders.{extents-append, length-extents, fits-any, fits-later}
 use Rattle.first_pass_order.proofs.RowSplits.{laid-shallower, extents-moved}
-use Rattle.first_pass_open.specs.OpenBlock.{closed_by}
 use Rattle.first_pass_lists.specs.Closing.{state_with, top_end}
-use Rattle.first_pass_lists.specs.declared.state.PassState.{PassState}
-use Rattle.first_pass_order.specs.Ordered.{EndsBeforeTitle, IsOrderedAt}
 use Rattle.first_pass_order.proofs.OrderLemmas.{ordered_more, ordered_closed, ordered_same, ordered_later, ordered_begun, top_there, inner}
 use Rattle.first_pass_order.proofs.AlikeNodes.{AreAlike, NoNodes, OneMore}
 use Rattle.first_pass_order.proofs.PropertyKept.{IsLeft, Property, MayLeave, HoldsAt, HoldsBefore}

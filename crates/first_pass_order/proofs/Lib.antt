@@ -1,3 +1,4 @@
+pub mod Common
 pub mod AlikeNodes
 pub mod CountLemmas
 pub mod DefinitionBegun

@@ -1,24 +1,19 @@
 -- Each index in nodes names an entry: closing nodes and noting blank lines changes no index, and opening a container
 -- adds none.
-use Rattle.std.proofs.Common.{◌≡◌, ℕ, zero, suc, ◌+◌, ◌<◌, Bool, true, false, List, [], ◌∷◌, ◌++◌, length, Option, Some, map, take, drop, None}
-use Rattle.std.proofs.Common.{refl, sym, ap, subst, arith}
-use Rattle.first_pass_grammar.proofs.Common.{Item, ItemBody, TaskListMarker, DefinitionList, MaybeDefinitionListTitle, TreeIndex, Forest, modify}
-use Rattle.first_pass_grammar.proofs.Common.{empty_forest, with_end_at, with_end, with_body_at, is_text, added, at_depth, map_from, deeper, shallower, Names}
-use Rattle.first_pass_grammar.proofs.Common.{Extends, index_of, NamesEntry, AreNamed, list_flags, is_task_marker, Options, Place, line_end, Kind, document}
-use Rattle.first_pass_grammar.proofs.Common.{lines_from, CowIndex}
+use Rattle.std.proofs.Common.{◌≡◌, ℕ, zero, suc, ◌+◌, ◌<◌, Bool, true, false, List, [], ◌∷◌, ◌++◌, length, Option, Some, map, take, drop, None, refl, sym, ap}
+use Rattle.std.proofs.Common.{subst, arith}
+use Rattle.first_pass_grammar.proofs.Common.{Item, ItemBody, TaskListMarker, DefinitionList, MaybeDefinitionListTitle, TreeIndex, Forest, modify, empty_forest}
+use Rattle.first_pass_grammar.proofs.Common.{with_end_at, with_end, with_body_at, is_text, added, at_depth, map_from, deeper, shallower, Names, Extends}
+use Rattle.first_pass_grammar.proofs.Common.{index_of, NamesEntry, AreNamed, list_flags, is_task_marker, Options, Place, line_end, Kind, document, lines_from}
+use Rattle.first_pass_grammar.proofs.Common.{CowIndex}
+use Rattle.first_pass_order.proofs.Common.{PassState, with_child, begun_item, item_opened, path_of, extends_none, AddsKind}
 use Rattle.first_pass_grammar.proofs.Names.TextsNamed.{opens_named}
 use Rattle.first_pass_grammar.proofs.Names.NamedItems.{IsNamed, named_more, named_both, named_deeper, named_modified}
-use Rattle.first_pass_names.proofs.NameLemmas.{extends_none}
-use Rattle.first_pass_open.specs.Path.{path_of}
-use Rattle.first_pass_order.specs.LeafBlocks.{AddsKind}
 use Rattle.first_pass_order.proofs.AlikeNodes.{AreAlike, NoNodes, OneMore, opened_both, like_blank}
 use Rattle.first_pass_order.proofs.PropertyKept.{Property, HoldsAt, HoldsBefore, popped_keeps, empty_item_closed_keeps, list_finished_keeps}
 use Rattle.first_pass_order.proofs.PropertyKept.{list_continued_keeps, quote_keeps, item_keeps, note_keeps, definition_keeps}
-use Rattle.first_pass_open.specs.OpenBlock.{with_child, begun_item}
 use Rattle.first_pass_lists.specs.Closing.{list_continued, popped, empty_item_closed, list_finished, begun, blank_read, footnote_begun, with_current}
 use Rattle.first_pass_lists.specs.Closing.{title_begun, definition_begun}
-use Rattle.first_pass_lists.specs.declared.state.PassState.{PassState}
-use Rattle.first_pass_lists.proofs.NoEmptyItem.{item_opened}
 
 -- a task list item marker is no text and has no index
 pub task_is_no_text : (body : ItemBody) → is_task_marker body ≡ true → is_text body ≡ false

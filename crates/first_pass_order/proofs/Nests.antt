@@ -1,26 +1,20 @@
 -- Only items are open directly in lists, as nodes are opened and closed and blank lines are noted. After a node is
 -- closed, no possible title is last.
-use Rattle.std.proofs.Common.{◌≡◌, ℕ, zero, suc, ◌+◌, ◌<◌, ◌≤◌, true, false, List, [], ◌∷◌, ◌++◌, length, Option, Some, None, refl, sym, ap, subst, ◌∙◌}
-use Rattle.std.proofs.Common.{arith, length-append, true≢false, option_and_then, option_map, IsSomeAnd}
+use Rattle.std.proofs.Common.{◌≡◌, ℕ, zero, suc, ◌+◌, ◌<◌, ◌≤◌, true, false, List, [], ◌∷◌, ◌++◌, length, Option, Some, None, refl, sym, ap, subst, ◌∙◌, arith}
+use Rattle.std.proofs.Common.{length-append, true≢false, option_and_then, option_map, IsSomeAnd}
 use Rattle.first_pass_grammar.proofs.Common.{cond_both, and_parts, false_from_ne_true, none-some, cond_some, CowIndex, Item, ItemBody, Paragraph}
 use Rattle.first_pass_grammar.proofs.Common.{DefinitionList, DefinitionListDefinition, MaybeDefinitionListTitle, TreeIndex, body-kept, Forest, empty_forest}
-use Rattle.first_pass_grammar.proofs.Common.{with_end_at, modify, with_body_at, body_at, map_from, shallower, added, length-modify, list_flags}
-use Rattle.first_pass_grammar.proofs.Common.{is_task_marker, item_on_top}
-use Rattle.first_pass_items.specs.declared.item.ItemBody.TheVariants.{List as ListBody, ListItem as ListItemBody}
-use Rattle.first_pass_items.specs.declared.item.ItemBody.TheVariants.{FootnoteDefinition as FootnoteDefinitionBody}
-use Rattle.first_pass_open.specs.OpenBlock.{closed_by, with_child}
-use Rattle.first_pass_grammar.proofs.Names.MoreNames.{get_front}
-use Rattle.first_pass_open.proofs.PathLemmas.{AreIn}
+use Rattle.first_pass_grammar.proofs.Common.{with_end_at, modify, with_body_at, body_at, map_from, shallower, added, length-modify, list_flags, is_task_marker}
+use Rattle.first_pass_grammar.proofs.Common.{item_on_top}
+use Rattle.first_pass_order.proofs.Common.{PassState, closed_by, with_child, top_of, AreNested, HasDefinition, CanClose, AreIn, other_list, get_front}
+use Rattle.first_pass_items.specs.declared.item.ItemBody.TheVariants.{List as ListBody, ListItem as ListItemBody, FootnoteDefinition as FootnoteDefinitionBody}
 use Rattle.first_pass_lists.specs.Closing.{state_with, with_tree, top_body, is_definition_list, is_list, is_list_of, is_item, is_footnote, popped_at}
 use Rattle.first_pass_lists.specs.Closing.{current_moved, definitions_closed, title_by, possible_title, title_closed, top_end, popped_after, popped}
 use Rattle.first_pass_lists.specs.Closing.{empty_item_closed_by, empty_item_closed, list_closed, footnote_left, gap_marked, list_finished, list_kept, begun}
 use Rattle.first_pass_lists.specs.Closing.{footnote_begun, list_continued, blank_read_by, blank_read}
-use Rattle.first_pass_lists.specs.declared.state.PassState.{PassState}
-use Rattle.first_pass_lists.proofs.ListKinds.{other_list}
 use Rattle.first_pass_lists.proofs.MovedLemmas.{lower_length}
 use Rattle.first_pass_order.proofs.OrderLemmas.{get_mid}
 use Rattle.first_pass_order.proofs.AlikeNodes.{class_of, AreAlike, NoNodes, OneMore, LooksAlike, like_body, like_popped, like_noted, like_kept, like_blank}
-use Rattle.first_pass_order.specs.Ordered.{top_of, AreNested, HasDefinition, CanClose}
 
 -- as many nodes, of the same classes
 pub record AreClassed (old new : List (ℕ × Item)) : Type 0 where

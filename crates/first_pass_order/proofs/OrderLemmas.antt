@@ -1,21 +1,19 @@
 -- Adding and opening nodes keeps order, and so does closing the innermost open node.
-use Rattle.std.proofs.Common.{◌≡◌, ℕ, zero, suc, ◌+◌, ◌≤◌, Bool, true, false, if◌then◌else◌, List, [], ◌∷◌, ◌++◌, length, slice_get, Option, Some, None}
-use Rattle.std.proofs.Common.{IsUtf8, IsCharBoundary, refl, sym, ap, subst, ◌∙◌, arith, option_and_then, option_map}
+use Rattle.std.proofs.Common.{◌≡◌, ℕ, zero, suc, ◌+◌, ◌≤◌, Bool, true, false, if◌then◌else◌, List, [], ◌∷◌, ◌++◌, length, slice_get, Option, Some, None, IsUtf8}
+use Rattle.std.proofs.Common.{IsCharBoundary, refl, sym, ap, subst, ◌∙◌, arith, option_and_then, option_map}
 use Rattle.first_pass_grammar.proofs.Common.{IsCharBoundary-start, IsCharBoundary-end, none-some, Item, ItemBody, DefinitionListDefinition, some_mapped}
 use Rattle.first_pass_grammar.proofs.Common.{TreeIndex, Forest, empty_forest, with_end_at, body_at, modify, at_depth, appended, added, Ranged, is_text_block}
 use Rattle.first_pass_grammar.proofs.Common.{is_task_marker, extent_of, extents, Siblings, Empty, laid, IsBetween, Elsewhere, InItem, Fits, FitsBetween}
 use Rattle.first_pass_grammar.proofs.Common.{laid_open, AreAt, open_within, FitsOpen, item_on_top, within_top, IsOrderedTo}
+use Rattle.first_pass_order.proofs.Common.{PassState, closed_by, reached, IsOrderedAt}
 use Rattle.std.proofs.lemmas.Option.{slice_get-map}
 use Rattle.first_pass_items.specs.declared.item.ItemBody.TheVariants.{ListItem as ListItemBody}
 use Rattle.first_pass_grammar.specs.Order.{is_list_item, is_definition_list, Node, IsOrdered}
 use Rattle.first_pass_grammar.proofs.Order.Orders.{beside, ended_at, extents-append, length-extents, extents-at_depth, laid-at_depth, laid-one}
 use Rattle.first_pass_grammar.proofs.Order.Orders.{laid_open-beside, laid_open-pushed, laid_open-level, laid_open-popped, laid_open-root, length-places}
-use Rattle.first_pass_grammar.proofs.Order.Orders.{fits-one, fits_open-later, fits_open-beside, fits_open-pushed, fits_open-popped, extents-ended}
-use Rattle.first_pass_grammar.proofs.Order.Orders.{extents-kept, fits-whole}
-use Rattle.first_pass_open.specs.OpenBlock.{closed_by}
+use Rattle.first_pass_grammar.proofs.Order.Orders.{fits-one, fits_open-later, fits_open-beside, fits_open-pushed, fits_open-popped, extents-ended, extents-kept}
+use Rattle.first_pass_grammar.proofs.Order.Orders.{fits-whole}
 use Rattle.first_pass_lists.specs.Closing.{is_item, popped_by, begun}
-use Rattle.first_pass_lists.specs.declared.state.PassState.{PassState}
-use Rattle.first_pass_order.specs.Ordered.{reached, IsOrderedAt}
 
 -- another forest with the same open nodes, in which the innermost one has these below it
 pub ordered_with : (text : List ℕ) (f g : Forest Item) (a b : ℕ) (h : IsOrderedTo text f a) (row : Siblings)

@@ -1,17 +1,16 @@
 -- Closing the state's nodes keeps order where lists and items end, and so does noting blank lines.
 use Rattle.std.proofs.Common.{◌≡◌, ◌⊎◌, inl, inr, ℕ, ◌≤◌, true, List, [], ◌∷◌, length, Option, Some, None, IsCharBoundary, refl, sym, subst, ◌∙◌, arith}
 use Rattle.first_pass_grammar.proofs.Common.{cond_both, ItemBody, Paragraph, TreeIndex, with_body_at, IsOrderedTo, CowIndex, body-kept}
+use Rattle.first_pass_order.proofs.Common.{PassState, finished_none, popped_at_none, closed_none, list_finished_none, list_continued_none, top_of, reached}
+use Rattle.first_pass_order.proofs.Common.{IsOrderedAt, EndsBeforeTitle, CanClose, IsReadTo}
 use Rattle.first_pass_items.specs.declared.item.ItemBody.TheVariants.{ListItem as ListItemBody}
-use Rattle.first_pass_lists.specs.Closing.{with_tree, top_body, is_list, is_item, popped_at, top_end, popped, empty_item_closed, list_finished}
-use Rattle.first_pass_lists.specs.Closing.{list_continued, blank_read_by, blank_read, gap_marked, footnote_begun}
-use Rattle.first_pass_lists.specs.declared.state.PassState.{PassState}
-use Rattle.first_pass_order.specs.Ordered.{top_of, reached, IsOrderedAt, EndsBeforeTitle, CanClose, IsReadTo}
+use Rattle.first_pass_lists.specs.Closing.{with_tree, top_body, is_list, is_item, popped_at, top_end, popped, empty_item_closed, list_finished, list_continued}
+use Rattle.first_pass_lists.specs.Closing.{blank_read_by, blank_read, gap_marked, footnote_begun}
 use Rattle.first_pass_order.proofs.AlikeNodes.{like_blank}
 use Rattle.first_pass_order.proofs.Nests.{title_no_item, item_settled, popped_both, popped_settled, popped_nested, finished_both, like_nested, blank_both}
 use Rattle.first_pass_order.proofs.Nests.{blank_item, settled_closes, outside_closes, list_finished_outside, list_continued_settled, footnote_begun_settled}
 use Rattle.first_pass_order.proofs.LeftOrder.{title_later, order_kept, ordered_at, ordered_before, may_leave}
 use Rattle.first_pass_order.proofs.PropertyKept.{popped_here, empty_item_closed_keeps, list_finished_keeps, list_continued_keeps, note_keeps}
-use Rattle.first_pass_lists.proofs.NoEmptyItem.{finished_none, popped_at_none, closed_none, list_finished_none, list_continued_none}
 use Rattle.first_pass_order.proofs.OrderLemmas.{ordered_none, ordered_at_later, popped_empty}
 
 pub noted_empty : (r : PassState) → (gap_marked r).begin_list_item ≡ r.begin_list_item

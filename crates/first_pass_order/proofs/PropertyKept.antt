@@ -4,18 +4,14 @@ use Rattle.std.proofs.Common.{ap, subst, ◌∙◌, option_and_then}
 use Rattle.first_pass_grammar.proofs.Common.{cond_both, none-some, slice_get_within, CowIndex, Item, ItemBody, Paragraph, DefinitionListDefinition}
 use Rattle.first_pass_grammar.proofs.Common.{MaybeDefinitionListTitle, some_mapped, TreeIndex, Forest, IsForest, modify, with_body_at, body_at, map_from}
 use Rattle.first_pass_grammar.proofs.Common.{shallower, moved_from, modified-is, list_flags}
-use Rattle.first_pass_items.specs.declared.item.ItemBody.TheVariants.{List as ListBody, ListItem as ListItemBody}
-use Rattle.first_pass_items.specs.declared.item.ItemBody.TheVariants.{FootnoteDefinition as FootnoteDefinitionBody}
-use Rattle.first_pass_open.specs.OpenBlock.{closed_by, opened_block}
+use Rattle.first_pass_order.proofs.Common.{PassState, closed_by, opened_block, finished_none, reached}
+use Rattle.first_pass_items.specs.declared.item.ItemBody.TheVariants.{List as ListBody, ListItem as ListItemBody, FootnoteDefinition as FootnoteDefinitionBody}
 use Rattle.first_pass_lists.specs.Closing.{with_tree, top_body, is_list, is_list_of, is_item, is_footnote, is_definition_list, popped_at, definitions_closed}
-use Rattle.first_pass_lists.specs.Closing.{top_end, possible_title, title_closed, popped, empty_item_closed, list_closed, gap_marked, list_finished}
-use Rattle.first_pass_lists.specs.Closing.{list_kept, begun, list_continued, footnote_left, footnote_begun, definitions_opened, definition_begun}
-use Rattle.first_pass_lists.specs.declared.state.PassState.{PassState}
+use Rattle.first_pass_lists.specs.Closing.{top_end, possible_title, title_closed, popped, empty_item_closed, list_closed, gap_marked, list_finished, list_kept}
+use Rattle.first_pass_lists.specs.Closing.{begun, list_continued, footnote_left, footnote_begun, definitions_opened, definition_begun}
 use Rattle.first_pass_lists.proofs.MovedLemmas.{closed_current}
-use Rattle.first_pass_order.specs.Ordered.{reached}
 use Rattle.first_pass_order.proofs.Nests.{TitleThere, title_there, title_no_item, note_untitled, popped_both, popped_item, finished_both}
 use Rattle.first_pass_order.proofs.AlikeNodes.{AreAlike, alike_ended, alike_both, LooksAlike, like_body, like_popped, like_noted, like_kept}
-use Rattle.first_pass_lists.proofs.NoEmptyItem.{finished_none}
 
 -- The innermost open node is closed at an offset, and its last child, the current node, is moved out of it.
 pub record IsLeft (f g : Forest Item) (e : ℕ) (c : TreeIndex) : Type 0 where

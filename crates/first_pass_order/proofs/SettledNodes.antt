@@ -1,11 +1,10 @@
 -- No node of a derived forest may still become a title.
 use Rattle.std.proofs.Common.{◌≡◌, ℕ, suc, Bool, true, false, List, [], ◌∷◌, length, refl, sym, subst, true≢false, arith}
-use Rattle.first_pass_grammar.proofs.Common.{Item, ItemBody, Paragraph, MaybeDefinitionListTitle, tight_body, nothing, LeafBlock, block_items}
-use Rattle.first_pass_grammar.proofs.Common.{as_title, row_items, tight_in, items_of, Tables, Derives, Document, What, ALeaf, ATitle, Rows, End, OneOf}
-use Rattle.first_pass_grammar.proofs.Common.{is_loose, rows_of}
+use Rattle.first_pass_grammar.proofs.Common.{Item, ItemBody, Paragraph, MaybeDefinitionListTitle, tight_body, nothing, LeafBlock, block_items, as_title}
+use Rattle.first_pass_grammar.proofs.Common.{row_items, tight_in, items_of, Tables, Derives, Document, What, ALeaf, ATitle, Rows, End, OneOf, is_loose, rows_of}
+use Rattle.first_pass_order.proofs.Common.{both_nodes, deeper_nodes, HoldsOfRow, derived_rows, tight_nodes}
 use Rattle.first_pass_grammar.proofs.Each.EachLeaf.{IsBlockOf, begins_block, is_inner}
-use Rattle.first_pass_grammar.proofs.Each.EachRow.{HoldsOfRow, HoldsOfEachRow, derived_rows, tight_nodes}
-use Rattle.first_pass_grammar.proofs.Each.EachCell.{both_nodes, deeper_nodes}
+use Rattle.first_pass_grammar.proofs.Each.EachRow.{HoldsOfEachRow}
 use Rattle.first_pass_order.specs.Settled.{IsSettled, AreSettled}
 
 -- no leaf block is a possible title or contains one

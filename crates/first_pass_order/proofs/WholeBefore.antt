@@ -1,22 +1,17 @@
 -- Nodes that can be completed already have whole tables: the nodes still open in them are no part of a table.
 use Rattle.std.proofs.Common.{◌≡◌, ℕ, suc, Bool, true, false, List, [], ◌∷◌, ◌++◌, length, map, refl, sym, ap, subst, ◌∙◌, arith, true≢false, All}
-use Rattle.first_pass_grammar.proofs.Common.{All-nil, All-cons, All-head, All-tail, All-append, All-map, Item, ItemBody, Table, Place, Names, Extends}
-use Rattle.first_pass_grammar.proofs.Common.{index_of, NamesEntry, AreNamed, Document, document, Continues, level, Lines, onward, ItemsOf, Rows, any_gap}
-use Rattle.first_pass_grammar.proofs.Common.{Tables, Derives, ended, Pending, OneList, Unfinished, Further, AreFurther, rows_beyond, rendered, Frame}
-use Rattle.first_pass_grammar.proofs.Common.{InContainer, InList, InDefinitions, definitions_open, containers_of, loosened, container_closed, Becomes}
-use Rattle.first_pass_grammar.proofs.Common.{is_quote, Mark, ATable, ARow, ACell, shown, marks, RowCells, row_marks, TableRows, table_marks, AreFull}
-use Rattle.first_pass_grammar.proofs.Common.{AreWholeTables}
-use Rattle.first_pass_grammar.specs.declared.kind.Container.{Container}
+use Rattle.first_pass_grammar.proofs.Common.{All-nil, All-cons, All-head, All-tail, All-append, All-map, Item, ItemBody, Table, Place, Names, Extends, index_of}
+use Rattle.first_pass_grammar.proofs.Common.{NamesEntry, AreNamed, Document, document, Continues, level, Lines, onward, ItemsOf, Rows, any_gap, Tables, Derives}
+use Rattle.first_pass_grammar.proofs.Common.{ended, Pending, OneList, Unfinished, Further, AreFurther, rows_beyond, rendered, Frame, InContainer, InList}
+use Rattle.first_pass_grammar.proofs.Common.{InDefinitions, definitions_open, containers_of, loosened, container_closed, Becomes, is_quote, Mark, ATable, ARow}
+use Rattle.first_pass_grammar.proofs.Common.{ACell, shown, marks, RowCells, row_marks, TableRows, table_marks, AreFull, AreWholeTables}
+use Rattle.first_pass_order.proofs.Common.{Container, WholeRows, derived_whole, alignments_kept, each_row, heads_are_full}
 use Rattle.first_pass_grammar.specs.Completion.{rows_on, Completion}
-use Rattle.first_pass_grammar.proofs.Each.EachRow.{each_row}
 use Rattle.first_pass_grammar.proofs.Sequences.Finishes.{containers-loosened}
-use Rattle.first_pass_grammar.proofs.WholeTables.FullHeads.{heads_are_full}
-use Rattle.first_pass_grammar.proofs.Names.MoreNames.{alignments_kept}
 use Rattle.first_pass_grammar.proofs.Sequences.PlacesKept.{AreAt}
 use Rattle.first_pass_completion.proofs.SilentNodes.{IsSilent, AreSilent, SilentList, ShowsMore, more_both, marks_ended, rendered_shows, silent_rendered}
 use Rattle.first_pass_completion.proofs.SilentNodes.{silent_place, silent_as, silent_definitions}
 use Rattle.first_pass_grammar.proofs.WholeTables.WholeBlocks.{PlainFrom, sequence_whole}
-use Rattle.first_pass_grammar.proofs.WholeTables.WholeForests.{WholeRows, derived_whole}
 
 -- the nodes still open have no part of a table when a container is closed
 silent_places : (depth last place e : ℕ) (nodes : List (ℕ × Item)) (list : Pending) (rows : Rows) (places : List ℕ) → SilentList nodes list

@@ -8,29 +8,20 @@ use Rattle.first_pass_grammar.proofs.Common.{TreeIndex, Forest, IsForest, modify
 use Rattle.first_pass_grammar.proofs.Common.{body-kept, Place, line_end, IsPlaceOf, Names, Extends, AreNamed, Kind, Document, document, lines_from}
 use Rattle.first_pass_grammar.proofs.Common.{is_task_marker, leaf_block, Line, OpensLeaf, Taken, IsText, is_row, Mark, shown, marks, AreWholeTables}
 use Rattle.first_pass_grammar.proofs.Common.{ShowsNothing, AreEachNode, SilentFrom, may_be_title, HasWholeTables, CowIndex}
+use Rattle.first_pass_order.proofs.Common.{PassState, closed_by, with_child, begun_item, opened_block, item_opened, Container, whole_both, whole_same, path_of}
+use Rattle.first_pass_order.proofs.Common.{extends_none, AddsKind, HaveNoRows, IsSilentLast, deeper_nodes, heads_are_full}
 use Rattle.std.proofs.lemmas.Bool.{or_from}
-use Rattle.first_pass_grammar.specs.declared.kind.Container.{Container}
-use Rattle.first_pass_grammar.specs.WholeTables.{HaveNoRows, IsSilentLast}
-use Rattle.first_pass_grammar.proofs.WholeTables.FullHeads.{heads_are_full}
 use Rattle.first_pass_grammar.proofs.Sequences.LinesLeft.{lines_from_at}
 use Rattle.first_pass_completion.proofs.SilentNodes.{from_modified, from_from, marks_moved}
 use Rattle.first_pass_grammar.proofs.WholeTables.TableMarks.{whole_deeper}
 use Rattle.first_pass_order.proofs.WholeBefore.{whole_still}
 use Rattle.first_pass_completion.proofs.SilentTexts.{silent_past}
-use Rattle.first_pass_grammar.proofs.Each.EachCell.{deeper_nodes}
 use Rattle.first_pass_grammar.proofs.WholeTables.WholeBlocks.{whole_none, ShownBy, text_whole, opens_as}
-use Rattle.first_pass_grammar.proofs.WholeTables.WholeForests.{whole_both, whole_same}
-use Rattle.first_pass_names.proofs.NameLemmas.{extends_none}
-use Rattle.first_pass_open.specs.OpenBlock.{closed_by, with_child, begun_item, opened_block}
-use Rattle.first_pass_open.specs.Path.{path_of}
 use Rattle.first_pass_lists.specs.Closing.{popped, empty_item_closed, list_finished, begun, blank_read, footnote_begun, possible_title}
-use Rattle.first_pass_lists.specs.declared.state.PassState.{PassState}
-use Rattle.first_pass_order.specs.LeafBlocks.{AddsKind}
 use Rattle.first_pass_order.proofs.Nests.{title_there, body-moved, first_there}
 use Rattle.first_pass_order.proofs.AlikeNodes.{IsBodyLike, AreAlike, NoNodes, OneMore, LooksAlike, like_blank}
 use Rattle.first_pass_order.proofs.PropertyKept.{IsLeft, Property, MayLeave, none_leaves, HoldsAt, HoldsBefore, popped_keeps, empty_item_closed_keeps}
 use Rattle.first_pass_order.proofs.PropertyKept.{list_finished_keeps, quote_keeps, item_keeps, note_keeps}
-use Rattle.first_pass_lists.proofs.NoEmptyItem.{item_opened}
 
 -- the node at a place is neither a row nor a text that a definition list may take in
 abbrev pub may_not_open : ItemBody → Bool

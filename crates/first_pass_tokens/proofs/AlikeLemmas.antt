@@ -1,26 +1,13 @@
 -- A line has only one list of tokens, except for the indices of the texts that they name, and so has a cell.
 use Rattle.std.proofs.Common.{◌≡◌, ℕ, zero, suc, ◌+◌, Bool, true, false, List, ◌∷◌, length, Option, Some, refl, sym, ap, subst, ◌∙◌, inl, inr, option_map}
 use Rattle.std.proofs.Common.{true≢false, arith, []}
-use Rattle.std.proofs.lemmas.List.{get_or_past}
-use Rattle.std.proofs.lemmas.Bool.{cases_lt, cases_Bool, cond_both}
-use Rattle.first_pass_items.specs.declared.cow_str.CowStr.{CowStr}
+use Rattle.first_pass_tokens.proofs.Common.{CowStr, Item, cases_lt, cases_Bool, cond_both, Piece, MathBraces, braces_after, Left, Token, Ready, Inline, size}
+use Rattle.first_pass_tokens.proofs.Common.{NamesAmong, MakesPiece, Spot, content_ends_at, ArePieces, IsInPieces, AreLineTokens, IsCell, add_piece, add_pieces}
+use Rattle.first_pass_tokens.proofs.Common.{is_text, token, run_tokens, add_token, add_tokens, add_text, CowIndex, TokenStart, MaybeEmphasis, get_or_past}
+use Rattle.first_pass_tokens.proofs.Common.{ItemBody, is_special}
 use Rattle.first_pass_items.specs.CowText.{text_of}
-use Rattle.first_pass_items.specs.declared.item.CowIndex.{CowIndex}
-use Rattle.first_pass_items.specs.declared.item.Item.{Item}
-use Rattle.first_pass_items.specs.declared.item.ItemBody.{ItemBody}
-use Rattle.first_pass_items.specs.declared.item.ItemBody.TheVariants.{MaybeEmphasis}
-use Rattle.first_pass_tree.specs.Forest.{is_text}
-use Rattle.first_pass_walk.specs.Walk.{is_special}
-use Rattle.first_pass_tokens.specs.declared.pieces.TokenStart.{TokenStart}
-use Rattle.first_pass_tokens.specs.declared.pieces.TokenStart.TheVariants.{Ready}
-use Rattle.first_pass_tokens.specs.declared.pieces.Piece.{Piece}
-use Rattle.first_pass_tokens.specs.declared.pieces.Piece.TheVariants.{Left, Token}
 use Rattle.first_pass_tokens.specs.Alike.{text_among, BodiesAlike, ItemsAlike, AreAlike}
-use Rattle.first_pass_tokens.specs.Chains.{token, run_tokens, add_token, add_tokens, add_text}
-use Rattle.first_pass_tokens.specs.Braces.{MathBraces, braces_after}
-use Rattle.first_pass_tokens.specs.NamedTexts.{NamesAmong, MakesPiece}
-use Rattle.first_pass_tokens.specs.Pieces.{Inline, found_at, special_found, special_piece, bracket_piece, size}
-use Rattle.first_pass_tokens.specs.LineTokens.{Spot, content_ends_at, ArePieces, IsInPieces, AreLineTokens, IsCell, add_piece, add_pieces}
+use Rattle.first_pass_tokens.specs.Pieces.{found_at, special_found, special_piece, bracket_piece}
 use Rattle.first_pass_tokens.proofs.PieceFacts.{IsFoundAt, found_facts}
 pub use Rattle.first_pass_tokens.proofs.PieceFacts.{names_text, NamesNone}
 

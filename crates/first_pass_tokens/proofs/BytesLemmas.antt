@@ -1,15 +1,8 @@
 -- Each token of a chain has a byte, so a chain in order has at most as many tokens as bytes.
 use Rattle.std.proofs.Common.{◌≡◌, ℕ, zero, suc, ◌+◌, ◌-◌, ◌≤◌, ◌<◌, List, ◌∷◌, ◌++◌, length, Option, refl, ap, arith, length-append, []}
-use Rattle.std.proofs.lemmas.Bool.{cases_Bool, cond_both}
-use Rattle.first_pass_items.specs.declared.cow_str.CowStr.{CowStr}
-use Rattle.first_pass_tokens.specs.Braces.{MathBraces}
-use Rattle.first_pass_items.specs.declared.item.Item.{Item}
-use Rattle.first_pass_tree.specs.declared.tree_index.TreeIndex.{TreeIndex}
-use Rattle.first_pass_tree.specs.Forest.{Forest, modify, with_end, appended}
-use Rattle.first_pass_tokens.specs.Pieces.{Inline}
-use Rattle.first_pass_tokens.specs.Chains.{add_token, add_tokens, close_break, cut}
-use Rattle.first_pass_tokens.specs.LineTokens.{AreLineTokens, IsCell, line_end_len}
-use Rattle.first_pass_tokens.specs.TreeTokens.{with_token, with_tokens, AppendsLine, AppendsCell}
+use Rattle.first_pass_tokens.proofs.Common.{CowStr, Item, cases_Bool, cond_both, MathBraces, Inline, AreLineTokens, IsCell, line_end_len, Forest, modify}
+use Rattle.first_pass_tokens.proofs.Common.{with_end, appended, add_token, add_tokens, close_break, cut, with_token, with_tokens, AppendsLine, AppendsCell}
+use Rattle.first_pass_tokens.proofs.Common.{TreeIndex}
 use Rattle.first_pass_tokens.proofs.InOrder.{AreInOrder, HaveBytes}
 use Rattle.first_pass_tokens.proofs.ChainLemmas.{add_text-some, add_token-by}
 use Rattle.first_pass_tokens.proofs.LineLemmas.{cell_keeps, line_keeps}

@@ -1,16 +1,7 @@
 -- Each pipe in the content of a cell is directly after a backslash.
 use Rattle.std.proofs.Common.{◌≡◌, ℕ, ◌+◌, ◌-◌, ◌≤◌, ◌<◌, true, false, List, ◌∷◌, slice_index, ap, inl, inr, arith, ◌==◌, []}
-use Rattle.std.proofs.lemmas.Bool.{cases_lt, false≢true}
-use Rattle.first_pass_items.specs.Bytes.{backslash, pipe}
-use Rattle.first_pass_items.specs.OptionWords.{has, tables}
-use Rattle.first_pass_items.specs.declared.cow_str.CowStr.{CowStr}
-use Rattle.first_pass_tokens.specs.Braces.{MathBraces, braces_after}
-use Rattle.first_pass_items.specs.declared.item.Item.{Item}
-use Rattle.first_pass_tokens.specs.declared.pieces.Piece.{Piece}
-use Rattle.first_pass_tokens.specs.Pieces.{Inline, found_at, size}
-use Rattle.first_pass_tokens.specs.NamedTexts.{MakesPiece}
-use Rattle.first_pass_tokens.specs.LineTokens.{Spot, spot, content_ends_at, ArePieces, IsCell}
-use Rattle.first_pass_tokens.specs.MarkupBytes.{PipesAreEscaped}
+use Rattle.first_pass_tokens.proofs.Common.{CowStr, Item, cases_lt, false≢true, backslash, pipe, Piece, MathBraces, braces_after, Inline, found_at, size}
+use Rattle.first_pass_tokens.proofs.Common.{MakesPiece, Spot, spot, content_ends_at, ArePieces, IsCell, PipesAreEscaped, has, tables}
 use Rattle.first_pass_tokens.proofs.PieceFacts.{IsPieceAt, mark_facts}
 use Rattle.first_pass_tokens.proofs.LineLemmas.{piece_of, not_ended_pipe}
 

@@ -2,16 +2,12 @@
 use Rattle.std.proofs.Common.{ℕ, suc, zero, ◌≡◌, ◌+◌, ◌≤◌, ◌<◌, ◌==◌, ◌&&◌, Bool, true, false, List, ◌∷◌, ◌++◌, length, take, Option, Some, None, nat_lt}
 use Rattle.std.proofs.Common.{slice_get, slice_index, refl, sym, ap, ◌∙◌, inl, inr, arith, length-append, append_assoc, option_map, append-nil, lt-ltb, le-ltb}
 use Rattle.std.proofs.Common.{ltb-true, ltb-false, eq-eqb, ne_eqb, []}
-use Rattle.std.proofs.Math.Seq.{take-append_seam, drop-append_seam}
-use Rattle.std.proofs.lemmas.Bool.{cond-true, cond-false, cond_both, cases_Bool, cases_lt, and_parts, and_from, and_left, and_right, false≢true}
-use Rattle.first_pass_items.specs.declared.item.Item.{Item}
-use Rattle.first_pass_tree.specs.declared.tree_index.TreeIndex.{TreeIndex}
-use Rattle.first_pass_tree.specs.Forest.{Forest, depths, item_at, modify, modified, appended, pushed, popped, childless, is_text}
-use Rattle.first_pass_tree.specs.Forest.{cut_tokens, cut_siblings, last_before, last_child, open_place, HasLeaves, ends_text_at, joins_at, with_end}
-use Rattle.first_pass_tree.specs.Forest.{with_end_at, with_text, at_depth, added, block_of, text_between}
+use Rattle.first_pass_tokens.proofs.Common.{Item, cond-true, cond-false, cond_both, cases_Bool, cases_lt, and_parts, and_from, and_left, and_right, false≢true}
+use Rattle.first_pass_tokens.proofs.Common.{Forest, depths, item_at, modify, modified, appended, pushed, popped, childless, is_text, cut_tokens, cut_siblings}
+use Rattle.first_pass_tokens.proofs.Common.{last_before, last_child, open_place, HasLeaves, ends_text_at, joins_at, with_end, with_end_at, with_text, at_depth}
+use Rattle.first_pass_tokens.proofs.Common.{added, block_of, text_between, text_token, touches, AreApart, add_token, add_tokens, add_text, cut, with_token}
+use Rattle.first_pass_tokens.proofs.Common.{with_tokens, chained, leaves, JoinsNone, TreeIndex, take-append_seam, drop-append_seam}
 use Rattle.first_pass_tree.proofs.Blocks.{modify-at, forest-eq, block-built}
-use Rattle.first_pass_tokens.specs.Chains.{text_token, touches, AreApart, add_token, add_tokens, add_text, cut}
-use Rattle.first_pass_tokens.specs.TreeTokens.{with_token, with_tokens, chained, leaves, JoinsNone}
 
 -- a text that is empty, and one that is not
 pub add_text-none : (from to : ℕ) (escaped : Bool) (chain : List Item) → to ≤ from → add_text from to escaped chain ≡ chain

@@ -1,10 +1,8 @@
 -- Dashes: a text repeated n times, and the offsets at which it may be cut.
 use Rattle.std.proofs.Common.{◌≡◌, ℕ, zero, suc, ◌+◌, ◌-◌, ◌*◌, ◌≤◌, List, ◌∷◌, ◌++◌, length, take, drop, encode_utf8, IsUtf8, IsCharBoundary, refl, sym, ap}
 use Rattle.std.proofs.Common.{subst, ◌∙◌, arith, length-append, append_assoc, slice_range, append-nil, []}
-use Rattle.std.proofs.lemmas.Str.{IsCharBoundary-at_seam, IsUtf8-append, IsUtf8-nil, IsUtf8-encode}
-use Rattle.std.proofs.Math.Seq.{take-append_seam, drop-append_seam}
+use Rattle.first_pass_tokens.proofs.Common.{times, IsCharBoundary-at_seam, IsUtf8-append, IsUtf8-nil, IsUtf8-encode, take-append_seam, drop-append_seam}
 use Rattle.std.proofs.Math.Utf8.{encode}
-use Rattle.first_pass_tokens.specs.NamedTexts.{times}
 
 -- the bytes of an em dash and of an en dash
 abbrev pub em_dash : List ℕ

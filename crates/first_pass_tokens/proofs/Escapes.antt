@@ -2,15 +2,8 @@
 -- between two characters.
 use Rattle.std.proofs.Common.{◌≡◌, ℕ, ◌+◌, ◌-◌, ◌≤◌, ◌<◌, ◌==◌, ◌&&◌, true, false, List, ◌∷◌, ◌++◌, slice_index, Option, IsCharBoundary, nat_lt, if◌then◌else◌}
 use Rattle.std.proofs.Common.{inl, inr, refl, sym, subst, ◌∙◌, arith, lt-ltb, le-ltb, eqb-true, []}
-use Rattle.std.proofs.lemmas.Bool.{cond-false, cond_both, cases_lt, and_parts, and_right, false≢true}
-use Rattle.first_pass_items.specs.Bytes.{backslash}
-use Rattle.first_pass_items.specs.declared.cow_str.CowStr.{CowStr}
-use Rattle.first_pass_tokens.specs.Braces.{MathBraces}
-use Rattle.first_pass_items.specs.declared.item.Item.{Item}
-use Rattle.first_pass_tree.specs.Forest.{is_escaped}
-use Rattle.first_pass_tokens.specs.Pieces.{Inline}
-use Rattle.first_pass_tokens.specs.Chains.{text_token, add_token, add_tokens, close_break, cut}
-use Rattle.first_pass_tokens.specs.LineTokens.{AreLineTokens}
+use Rattle.first_pass_tokens.proofs.Common.{CowStr, Item, cond-false, cond_both, cases_lt, and_parts, and_right, false≢true, backslash, MathBraces, Inline}
+use Rattle.first_pass_tokens.proofs.Common.{AreLineTokens, is_escaped, text_token, add_token, add_tokens, close_break, cut}
 use Rattle.first_pass_tokens.proofs.InOrder.{AreInOrder, HaveBytes}
 use Rattle.first_pass_tokens.proofs.ChainLemmas.{add_text-some, add_token-by}
 use Rattle.first_pass_tokens.proofs.LineLemmas.{line_keeps}

@@ -1,6 +1,6 @@
 -- Tokens, one after the other.
 use Rattle.std.proofs.Common.{ℕ, ◌≤◌, ◌<◌, List, ◌∷◌, IsCharBoundary, []}
-use Rattle.first_pass_items.specs.declared.item.Item.{Item}
+use Rattle.first_pass_tokens.proofs.Common.{Item}
 
 -- These items are between two offsets, one after the other, and each begins and ends between two characters (this
 -- project).

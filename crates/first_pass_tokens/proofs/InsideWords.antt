@@ -1,17 +1,10 @@
 -- An underscore between two ASCII letters or digits.
-use Rattle.std.proofs.Common.{◌≡◌, ℕ, ◌+◌, ◌-◌, ◌<◌, ◌==◌, true, false, length, take, Some, IsUtf8, nat_lt, slice_index, refl, sym, ap, ◌∙◌, arith}
-use Rattle.std.proofs.Common.{eqb-true, ltb-true, lt-ltb}
-use Rattle.std.specs.Char.{is_ascii_alphanumeric}
-use Rattle.std.proofs.lemmas.Bool.{and_parts}
-use Rattle.std.proofs.lemmas.Bool.Decides.{nat_tests}
-use Rattle.first_pass_items.specs.Bytes.{underscore}
-use Rattle.first_pass_walk.specs.declared.flank.DelimiterRun.{DelimiterRun}
-use Rattle.first_pass_walk.specs.Flank.{can_open, can_close}
+use Rattle.std.proofs.Common.{◌≡◌, ℕ, ◌+◌, ◌-◌, ◌<◌, ◌==◌, true, false, length, take, Some, IsUtf8, nat_lt, slice_index, refl, sym, ap, ◌∙◌, arith, eqb-true}
+use Rattle.std.proofs.Common.{ltb-true, lt-ltb}
+use Rattle.first_pass_tokens.proofs.Common.{and_parts, underscore, Left, nat_tests, Ready, Inline, run_piece, is_inside_word, IsReadyAt, is_ascii_alphanumeric}
+use Rattle.first_pass_tokens.proofs.Common.{DelimiterRun, can_open, can_close}
 use Rattle.first_pass_walk.proofs.WordFacts.{word_underscore, opens_not, closes_not, last_word, first_word, no_pipe}
-use Rattle.first_pass_tokens.specs.declared.pieces.Piece.TheVariants.{Left}
-use Rattle.first_pass_tokens.specs.declared.pieces.TokenStart.TheVariants.{Ready}
-use Rattle.first_pass_tokens.specs.Pieces.{Inline, special_found, special_piece, delimiter_piece, run_size, run_in, run_piece, char_before, is_inside_word}
-use Rattle.first_pass_tokens.specs.Pieces.{IsReadyAt}
+use Rattle.first_pass_tokens.specs.Pieces.{special_found, special_piece, delimiter_piece, run_size, run_in, char_before}
 use Rattle.first_pass_tokens.proofs.PieceFacts.{at_byte}
 use Rattle.first_pass_tokens.proofs.QuickPieces.{run_one}
 use Rattle.first_pass_tokens.proofs.RunPlaces.{front_byte}

@@ -1,3 +1,4 @@
+pub mod Common
 pub mod AlikeLemmas
 pub mod BytesLemmas
 pub mod CellPipes

@@ -1,23 +1,13 @@
 -- Each line has tokens, and so has each cell, with the texts that they name among some texts.
 use Rattle.std.proofs.Common.{inl, inr, ℕ, zero, suc, ◌+◌, ◌-◌, ◌<◌, ◌≡◌, true, false, List, ◌∷◌, ◌++◌, length, encode_utf8, Option, refl, arith, []}
-use Rattle.std.proofs.lemmas.Bool.{cases_Bool, true_from_ne_false}
-use Rattle.first_pass_items.specs.declared.cow_str.CowStr.{CowStr}
+use Rattle.first_pass_tokens.proofs.Common.{CowStr, Item, cases_Bool, true_from_ne_false, Piece, MathBraces, dollar_context, braces_after, Left, Token, Ready}
+use Rattle.first_pass_tokens.proofs.Common.{Reference, Dashes, Dollar, Inline, found_at, size, dashes, IsNamingToken, MakesPiece, AreMore, Spot, spot}
+use Rattle.first_pass_tokens.proofs.Common.{content_ends_at, ArePieces, text_end, add_pieces, line_end_len, line_break, blanks_at_end, AreLineTokens, IsCell}
+use Rattle.first_pass_tokens.proofs.Common.{CowIndex, TokenStart, SynthesizeText, MaybeMath}
 use Rattle.first_pass_items.specs.declared.cow_str.CowStr.TheVariants.{Borrowed}
-use Rattle.first_pass_items.specs.declared.item.CowIndex.{CowIndex}
-use Rattle.first_pass_items.specs.declared.item.Item.{Item}
-use Rattle.first_pass_items.specs.declared.item.ItemBody.TheVariants.{SynthesizeText, MaybeMath}
-use Rattle.first_pass_tokens.specs.declared.pieces.TokenStart.{TokenStart}
-use Rattle.first_pass_tokens.specs.declared.pieces.TokenStart.TheVariants.{Ready, Reference, Dashes, Dollar}
-use Rattle.first_pass_tokens.specs.declared.pieces.Piece.{Piece}
-use Rattle.first_pass_tokens.specs.declared.pieces.Piece.TheVariants.{Left, Token}
-use Rattle.first_pass_tokens.specs.NamedTexts.{dashes, IsNamingToken, MakesPiece, AreMore}
-use Rattle.first_pass_tokens.specs.Braces.{MathBraces, dollar_context, braces_after}
-use Rattle.first_pass_tokens.specs.Pieces.{Inline, found_at, size}
 use Rattle.first_pass_tokens.proofs.PieceFacts.{piece_some}
 use Rattle.first_pass_tokens.proofs.LineLemmas.{piece_of, not_ended}
 use Rattle.first_pass_tokens.proofs.NamedTexts.{more_none, more_both, among_last, becomes_more}
-use Rattle.first_pass_tokens.specs.LineTokens.{Spot, spot, content_ends_at, ArePieces, text_end, add_pieces, line_end_len, line_break, blanks_at_end}
-use Rattle.first_pass_tokens.specs.LineTokens.{AreLineTokens, IsCell}
 
 -- a borrowed text
 unfoldable pub borrowed : List ℕ → CowStr

@@ -3,32 +3,16 @@ use Rattle.std.proofs.Common.{ℕ, min, zero, suc, ◌≡◌, ◌⊎◌, ◌+◌
 use Rattle.std.proofs.Common.{reverse, drop, get_or, slice_index, nat_lt, nat_le, Option, None, IfSome, Result, Ok, Err, IfOk, unwrap_or, refl, sym, ap, subst}
 use Rattle.std.proofs.Common.{◌∙◌, inl, inr, arith, length-drop, length-take, slice_range, get_or-drop, get_or-take, drop-drop, eqb-true, le-leb, leb-false}
 use Rattle.std.proofs.Common.{leb-true, ltb-true, []}
-use Rattle.std.specs.List.{suffix_len, prefix_len}
-use Rattle.std.specs.declared.alloc.AllocError.{AllocError}
-use Rattle.std.proofs.lemmas.List.{get_or-reverse, get_or_past, at_drop_all, at_drop_more}
-use Rattle.std.proofs.lemmas.List.Sums.{suffix_len-le-length, prefix_len_passes, prefix_len_is, prefix_len_stops}
-use Rattle.std.proofs.lemmas.Bool.{false≢true, cases_lt, cond_both, cond-true, cond-false, or_cases, and_parts, lt-leb, not_from_true, not_from_false}
-use Rattle.std.proofs.lemmas.Bool.Decides.{nat_tests}
-use Rattle.std.proofs.Math.Bool.{or-false}
-use Rattle.first_pass_items.specs.Bytes.{line_feed, carriage_return, backslash, backquote, pipe}
-use Rattle.first_pass_items.specs.OptionWords.{has, tables}
-use Rattle.first_pass_items.specs.declared.item.Item.{Item}
-use Rattle.first_pass_items.specs.declared.item.ItemBody.TheVariants.{MaybeEmphasis}
-use Rattle.first_pass_tree.specs.Forest.{Forest, is_text, is_escaped}
-use Rattle.first_pass_lines.specs.Lines.{is_line_end, is_content, is_white, begins, eol_len, line_len}
-use Rattle.first_pass_lines.proofs.LineFacts.{line_len-fits, line_len-within}
-use Rattle.first_pass_tokens.specs.declared.pieces.Piece.{Piece}
-use Rattle.first_pass_tokens.specs.declared.pieces.Piece.TheVariants.{Left, Begins, Token, Run}
-use Rattle.first_pass_items.specs.declared.cow_str.CowStr.{CowStr}
-use Rattle.first_pass_tokens.specs.Braces.{MathBraces, braces_after}
-use Rattle.first_pass_tokens.specs.NamedTexts.{MakesPiece}
-use Rattle.first_pass_tokens.specs.Pieces.{Inline, found_at, size, is_delimiter, run_at}
-use Rattle.first_pass_tokens.specs.MarkupBytes.{StandsOver, HasNoBackquote}
-use Rattle.first_pass_tokens.specs.LineTokens.{Spot, spot, text_end, content_ends_at, ends_cell, ArePieces, IsInPieces, AreLineTokens, IsCell, IsBreak}
-use Rattle.first_pass_tokens.specs.LineTokens.{EndsLine, EndsCell, add_piece, add_pieces, line_end_len, line_break, breaks_by_backslash, backslashes_at_end}
-use Rattle.first_pass_tokens.specs.LineTokens.{blanks_at_end}
-use Rattle.first_pass_tokens.specs.TreeTokens.{AppendsLine, AppendsCell, chained, JoinsNone}
-use Rattle.first_pass_tokens.specs.Chains.{text_token, token, run_tokens, add_token, add_tokens, add_text, AreApart}
+use Rattle.first_pass_tokens.proofs.Common.{CowStr, Item, false≢true, cases_lt, cond_both, cond-true, cond-false, or_cases, and_parts, lt-leb, not_from_true}
+use Rattle.first_pass_tokens.proofs.Common.{not_from_false, line_feed, carriage_return, backslash, backquote, pipe, Piece, MathBraces, braces_after, Left}
+use Rattle.first_pass_tokens.proofs.Common.{Begins, Token, Run, nat_tests, Inline, found_at, size, is_delimiter, run_at, MakesPiece, Spot, spot, text_end}
+use Rattle.first_pass_tokens.proofs.Common.{ends_cell, ArePieces, IsInPieces, AreLineTokens, IsCell, IsBreak, EndsLine, EndsCell, add_piece, add_pieces, Forest}
+use Rattle.first_pass_tokens.proofs.Common.{is_text, is_escaped, text_token, token, run_tokens, add_token, add_tokens, add_text, AreApart, AppendsLine}
+use Rattle.first_pass_tokens.proofs.Common.{AppendsCell, chained, JoinsNone, is_line_end, is_content, is_white, begins, eol_len, MaybeEmphasis, get_or-reverse}
+use Rattle.first_pass_tokens.proofs.Common.{get_or_past, at_drop_all, at_drop_more, StandsOver, HasNoBackquote, has, tables, suffix_len, prefix_len, AllocError}
+use Rattle.first_pass_tokens.proofs.Common.{suffix_len-le-length, prefix_len_passes, prefix_len_is, prefix_len_stops, or-false, line_len-fits, line_len-within}
+use Rattle.first_pass_lines.specs.Lines.{line_len}
+use Rattle.first_pass_tokens.specs.LineTokens.{content_ends_at, line_end_len, line_break, breaks_by_backslash, backslashes_at_end, blanks_at_end}
 use Rattle.first_pass_tokens.proofs.PieceFacts.{IsPieceAt, found_facts, becomes_facts, piece_byte, piece_fits, visible_plain, run_next, markup_plain}
 use Rattle.first_pass_tokens.proofs.PieceFacts.{markup_unescaped}
 use Rattle.first_pass_tokens.proofs.ChainLemmas.{add_token-apart, add_tokens-none, with_tokens-chained}

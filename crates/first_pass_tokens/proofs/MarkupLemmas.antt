@@ -1,11 +1,7 @@
 -- Tokens of possible markup have the bytes of their kinds, and no text has a backquote, also after one more token.
 use Rattle.std.proofs.Common.{◌≡◌, ℕ, true, List, inl, inr, arith}
-use Rattle.std.proofs.lemmas.Bool.{cases_lt, false≢true}
-use Rattle.first_pass_items.specs.declared.item.Item.{Item}
-use Rattle.first_pass_items.specs.declared.item.ItemBody.{ItemBody}
-use Rattle.first_pass_tree.specs.Forest.{is_text}
-use Rattle.first_pass_tokens.specs.MarkupBytes.{StandsOver, StandOver, HasNoBackquote, TextsHaveNoBackquote}
-use Rattle.first_pass_tokens.specs.Chains.{add_token}
+use Rattle.first_pass_tokens.proofs.Common.{Item, cases_lt, false≢true, is_text, add_token, StandsOver, StandOver, HasNoBackquote, TextsHaveNoBackquote}
+use Rattle.first_pass_tokens.proofs.Common.{ItemBody}
 use Rattle.first_pass_tokens.proofs.ChainLemmas.{add_token-by}
 
 -- a text is no markup, whatever its range

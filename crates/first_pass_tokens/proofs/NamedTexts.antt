@@ -1,16 +1,8 @@
 -- Texts that tokens name stay named while more are appended, and each token of a line names one of them, if it names
 -- a text.
 use Rattle.std.proofs.Common.{◌≡◌, ℕ, zero, suc, ◌+◌, List, ◌∷◌, ◌++◌, length, slice_get, Option, Some, sym, ap, ◌∙◌, append_assoc, append-nil, arith, []}
-use Rattle.first_pass_items.specs.declared.cow_str.CowStr.{CowStr}
-use Rattle.first_pass_tokens.specs.Braces.{MathBraces, braces_after}
-use Rattle.first_pass_items.specs.declared.item.CowIndex.{CowIndex}
-use Rattle.first_pass_items.specs.declared.item.Item.{Item}
-use Rattle.first_pass_tokens.specs.declared.pieces.TokenStart.{TokenStart}
-use Rattle.first_pass_tokens.specs.declared.pieces.TokenStart.TheVariants.{Reference, Dashes}
-use Rattle.first_pass_tokens.specs.declared.pieces.Piece.{Piece}
-use Rattle.first_pass_tokens.specs.Pieces.{Inline, found_at, size}
-use Rattle.first_pass_tokens.specs.NamedTexts.{NamesAmong, MakesPiece, AreMore}
-use Rattle.first_pass_tokens.specs.LineTokens.{Spot, ArePieces, IsInPieces, AreLineTokens, IsCell}
+use Rattle.first_pass_tokens.proofs.Common.{CowStr, Item, Piece, MathBraces, braces_after, Reference, Dashes, Inline, found_at, size, NamesAmong, MakesPiece}
+use Rattle.first_pass_tokens.proofs.Common.{AreMore, Spot, ArePieces, IsInPieces, AreLineTokens, IsCell, CowIndex, TokenStart}
 use Rattle.first_pass_tokens.proofs.ChainLemmas.{slice_get-following}
 
 pub more_none : (texts : List CowStr) → AreMore texts texts

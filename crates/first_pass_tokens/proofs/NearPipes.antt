@@ -1,14 +1,10 @@
 -- A pipe that ends no cell is plain text, and so is a letter, digit or hyphen before it.
 use Rattle.std.proofs.Common.{◌≡◌, ℕ, ◌+◌, ◌<◌, ◌≤◌, ◌==◌, true, false, List, length, inl, inr, arith, slice_index}
-use Rattle.std.specs.Char.{is_ascii_alphanumeric}
-use Rattle.std.proofs.lemmas.Bool.{cases_lt, lt-leb, and_from, and_parts, or_cases, or_from, or_parts, or_left, or_right, cond_both}
-use Rattle.std.proofs.lemmas.Bool.Decides.{nat_tests}
-use Rattle.first_pass_items.specs.Bytes.{hyphen, pipe}
+use Rattle.first_pass_tokens.proofs.Common.{cases_lt, lt-leb, and_from, and_parts, or_cases, or_from, or_parts, or_left, or_right, cond_both, hyphen, pipe}
+use Rattle.first_pass_tokens.proofs.Common.{Left, nat_tests, Ready, Inline, is_word_or_hyphen, is_near_pipe, is_ascii_alphanumeric}
 use Rattle.first_pass_walk.specs.Walk.{is_special}
-use Rattle.first_pass_tokens.specs.declared.pieces.Piece.TheVariants.{Left}
-use Rattle.first_pass_tokens.specs.declared.pieces.TokenStart.TheVariants.{Ready}
-use Rattle.first_pass_tokens.specs.Pieces.{Inline, found_at, special_found, special_piece, bracket_piece}
-use Rattle.first_pass_tokens.specs.LineTokens.{content_ends_at, is_word_or_hyphen, is_near_pipe}
+use Rattle.first_pass_tokens.specs.Pieces.{found_at, special_found, special_piece, bracket_piece}
+use Rattle.first_pass_tokens.specs.LineTokens.{content_ends_at}
 use Rattle.first_pass_tokens.proofs.QuickPieces.{hyphen_ready}
 use Rattle.first_pass_tokens.proofs.SoFar.{IsPlain}
 

@@ -3,26 +3,14 @@
 use Rattle.std.proofs.Common.{ℕ, zero, suc, ◌≡◌, ◌⊎◌, ◌+◌, ◌-◌, ◌≤◌, ◌<◌, ◌==◌, min, Bool, true, false, List, ◌∷◌, ◌++◌, length, take, get_or, slice_index}
 use Rattle.std.proofs.Common.{nat_lt, Option, Some, None, IfSome, IsUtf8, IsCharBoundary, refl, sym, ap, subst, inl, inr, arith, drop, slice_range, length-drop}
 use Rattle.std.proofs.Common.{length-take, get_or-take, eqb-true, []}
-use Rattle.std.specs.List.{suffix_len}
-use Rattle.std.proofs.lemmas.List.Sums.{suffix_len-le-length}
-use Rattle.std.proofs.lemmas.Str.{IsCharBoundary-after_ascii, IsCharBoundary-before_ascii, IsCharBoundary-end}
-use Rattle.std.proofs.lemmas.Bool.{cases_lt, cases_Bool, cond_both, false≢true}
-use Rattle.std.proofs.lemmas.Bool.Decides.{nat_tests}
-use Rattle.first_pass_items.specs.Bytes.{backslash, ascii_end}
-use Rattle.first_pass_items.specs.declared.cow_str.CowStr.{CowStr}
-use Rattle.first_pass_tokens.specs.Braces.{MathBraces, braces_after}
-use Rattle.first_pass_items.specs.declared.item.Item.{Item}
-use Rattle.first_pass_lines.specs.Lines.{is_line_end, is_white_or_line_end, line_len}
-use Rattle.first_pass_lines.proofs.LineFacts.{line_len-fits}
-use Rattle.first_pass_lines.proofs.PlaceFacts.{line_end_boundary}
-use Rattle.first_pass_tokens.specs.declared.pieces.Piece.{Piece}
-use Rattle.first_pass_tokens.specs.declared.pieces.Piece.TheVariants.{Left, Begins, Token, Run}
-use Rattle.first_pass_tokens.specs.declared.line.HeldText.{HeldText}
+use Rattle.first_pass_tokens.proofs.Common.{CowStr, Item, cases_lt, cases_Bool, cond_both, false≢true, backslash, ascii_end, Piece, MathBraces, braces_after}
+use Rattle.first_pass_tokens.proofs.Common.{Left, Begins, Token, Run, nat_tests, Inline, found_at, size, Spot, spot, content_ends_at, ends_cell, ArePieces}
+use Rattle.first_pass_tokens.proofs.Common.{AreLineTokens, IsCell, EndsLine, add_pieces, breaks_by_backslash, line_end_len, text_token, token, run_tokens}
+use Rattle.first_pass_tokens.proofs.Common.{add_token, add_tokens, add_text, is_backslash_break, close_break, is_line_end, is_white_or_line_end, line_len}
+use Rattle.first_pass_tokens.proofs.Common.{IsCharBoundary-after_ascii, IsCharBoundary-before_ascii, IsCharBoundary-end, suffix_len, suffix_len-le-length}
+use Rattle.first_pass_tokens.proofs.Common.{line_len-fits, line_end_boundary, HeldText}
 use Rattle.first_pass_tokens.specs.HeldText.{held_after}
-use Rattle.first_pass_tokens.specs.Pieces.{Inline, found_at, size}
-use Rattle.first_pass_tokens.specs.LineTokens.{Spot, spot, content_ends_at, ends_cell, ArePieces, AreLineTokens, IsCell, EndsLine, add_pieces, text_end}
-use Rattle.first_pass_tokens.specs.LineTokens.{breaks_by_backslash, backslashes_at_end, blanks_at_end, line_end_len, line_break}
-use Rattle.first_pass_tokens.specs.Chains.{text_token, token, run_tokens, add_token, add_tokens, add_text, is_backslash_break, close_break}
+use Rattle.first_pass_tokens.specs.LineTokens.{text_end, backslashes_at_end, blanks_at_end, line_break}
 use Rattle.first_pass_tokens.proofs.InOrder.{AreInOrder}
 use Rattle.first_pass_tokens.proofs.ChainLemmas.{add_text-none, add_token-by}
 use Rattle.first_pass_tokens.proofs.PieceFacts.{IsVisible, IsMark, Each, IsPieceAt, mark_facts, piece_byte, at_byte}

@@ -1,36 +1,20 @@
 -- The piece at a place, case by case: its bytes and its token. Other facts on pieces follow only from these.
 use Rattle.std.proofs.Common.{◌≡◌, ℕ, ◌+◌, ◌-◌, ◌≤◌, ◌<◌, ◌==◌, ◌&&◌, not, Bool, true, false, List, length, drop, slice_index, Option, Some, unwrap_or, refl}
 use Rattle.std.proofs.Common.{sym, ap, subst, ◌∙◌, inl, inr, arith, length-drop, ◌||◌, suc, nat_lt, get_or-drop, eqb-true, eq-eqb, ltb-true}
+use Rattle.first_pass_tokens.proofs.Common.{CowStr, cases_lt, cond_both, cond-true, cond-false, and_parts, false≢true, dollar_sign, ampersand, hyphen}
+use Rattle.first_pass_tokens.proofs.Common.{full_stop, backslash, backquote, left_brace, pipe, right_brace, Piece, MathBraces, Left, Begins, Token, Run}
+use Rattle.first_pass_tokens.proofs.Common.{nat_tests, Ready, Reference, Dashes, Dollar, OpenBrace, CloseBrace, Inline, backslash_piece_in, is_delimiter}
+use Rattle.first_pass_tokens.proofs.Common.{is_too_long, is_quote, run_piece, size, MakesPiece, is_text, is_escaped, is_line_end, is_white, TokenStart}
+use Rattle.first_pass_tokens.proofs.Common.{MaybeEmphasis, MaybeMath, MaybeSmartQuote, SynthesizeChar, SynthesizeText, MaybeCode, MaybeHtml, MaybeLinkOpen}
+use Rattle.first_pass_tokens.proofs.Common.{MaybeLinkClose, MaybeImage, is_ascii_punctuation, get_or_past, at_drop_more, AreBackquotes, StandsOver, smart_char}
+use Rattle.first_pass_tokens.proofs.Common.{prefix_len, prefix_len_passes, prefix_len_stops, prefix_len-le-length, ItemBody, DelimiterRun, can_open, can_close}
 use Rattle.std.specs.Option.{option_map_or}
-use Rattle.std.specs.Char.{is_ascii_punctuation}
-use Rattle.std.specs.List.{prefix_len}
-use Rattle.std.proofs.lemmas.List.{get_or_past, at_drop_more}
-use Rattle.std.proofs.lemmas.List.Sums.{prefix_len_passes, prefix_len_stops, prefix_len-le-length}
-use Rattle.std.proofs.lemmas.Bool.{cases_lt, cond_both, cond-true, cond-false, and_parts, false≢true}
-use Rattle.std.proofs.lemmas.Bool.Decides.{nat_tests}
-use Rattle.first_pass_items.specs.Bytes.{dollar_sign, ampersand, hyphen, full_stop, backslash, backquote, left_brace, pipe, right_brace}
-use Rattle.first_pass_items.specs.declared.cow_str.CowStr.{CowStr}
-use Rattle.first_pass_items.specs.declared.item.ItemBody.{ItemBody}
 use Rattle.first_pass_items.specs.declared.option_set.Options.{Options}
-use Rattle.first_pass_items.specs.declared.item.ItemBody.TheVariants.{MaybeEmphasis, MaybeMath, MaybeSmartQuote, SynthesizeChar, SynthesizeText, MaybeCode}
-use Rattle.first_pass_items.specs.declared.item.ItemBody.TheVariants.{MaybeHtml, MaybeLinkOpen, MaybeLinkClose, MaybeImage}
-use Rattle.first_pass_tree.specs.Forest.{is_text, is_escaped}
-use Rattle.first_pass_lines.specs.Lines.{is_line_end, is_white}
 use Rattle.first_pass_entities.specs.Entities.{entity_at}
 use Rattle.first_pass_entities.proofs.EntityFacts.{is_reference_byte, entity_is_reference}
 use Rattle.first_pass_walk.specs.Walk.{is_special}
-use Rattle.first_pass_walk.specs.declared.flank.DelimiterRun.{DelimiterRun}
-use Rattle.first_pass_walk.specs.Flank.{can_open, can_close}
-use Rattle.first_pass_tokens.specs.declared.pieces.TokenStart.{TokenStart}
-use Rattle.first_pass_tokens.specs.declared.pieces.TokenStart.TheVariants.{Ready, Reference, Dashes, Dollar, OpenBrace, CloseBrace}
-use Rattle.first_pass_tokens.specs.declared.pieces.Piece.{Piece}
-use Rattle.first_pass_tokens.specs.declared.pieces.Piece.TheVariants.{Left, Begins, Token, Run}
-use Rattle.first_pass_tokens.specs.MarkupBytes.{AreBackquotes, StandsOver, smart_char}
-use Rattle.first_pass_tokens.specs.Braces.{MathBraces}
-use Rattle.first_pass_tokens.specs.NamedTexts.{MakesPiece}
-use Rattle.first_pass_tokens.specs.Pieces.{Inline, found_at, special_found, reference_found, dash_found, dollar_found, special_piece, backslash_piece}
-use Rattle.first_pass_tokens.specs.Pieces.{backslash_piece_in, backquote_piece, is_delimiter, is_too_long, run_in, run_size, is_quote, quote_piece, dot_piece}
-use Rattle.first_pass_tokens.specs.Pieces.{dash_piece, run_piece, delimiter_piece, bracket_piece, run_at, size}
+use Rattle.first_pass_tokens.specs.Pieces.{found_at, special_found, reference_found, dash_found, dollar_found, special_piece, backslash_piece, backquote_piece}
+use Rattle.first_pass_tokens.specs.Pieces.{run_in, run_size, quote_piece, dot_piece, dash_piece, delimiter_piece, bracket_piece, run_at}
 
 -- a visible ASCII character
 abbrev pub IsVisible : ℕ → Type 0

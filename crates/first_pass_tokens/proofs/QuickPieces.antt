@@ -1,17 +1,10 @@
 -- The pieces that `quick_piece` finds at once.
 use Rattle.std.proofs.Common.{◌≡◌, ℕ, ◌+◌, ◌<◌, ◌==◌, Bool, false, true, List, length, refl, sym, ap, arith, slice_index}
-use Rattle.std.proofs.lemmas.Bool.{cases_lt, or_parts}
-use Rattle.std.proofs.lemmas.Bool.Decides.{nat_tests}
-use Rattle.std.specs.Char.{is_ascii_punctuation}
-use Rattle.first_pass_items.specs.Bytes.{ampersand, dollar_sign, left_brace, right_brace, less_than, left_bracket, backslash, backquote, pipe, right_bracket}
-use Rattle.first_pass_items.specs.Bytes.{exclamation_mark, full_stop, hyphen}
-use Rattle.first_pass_items.specs.declared.item.ItemBody.TheVariants.{MaybeHtml, MaybeImage, MaybeLinkOpen, MaybeLinkClose}
-use Rattle.first_pass_tokens.specs.declared.pieces.Piece.TheVariants.{Token, Left, Begins}
-use Rattle.first_pass_tokens.specs.declared.pieces.Piece.{Piece}
-use Rattle.first_pass_tokens.specs.declared.pieces.TokenStart.TheVariants.{Ready}
-use Rattle.first_pass_tokens.specs.Pieces.{Inline, is_delimiter, delimiter_piece, special_found, special_piece, backslash_piece, backslash_piece_in}
-use Rattle.first_pass_tokens.specs.Pieces.{backquote_piece, bracket_piece, dot_piece, dash_found, dash_piece, run_at, is_quote, is_bracket_at, is_quick_at, IsReadyAt}
-use Rattle.first_pass_lines.proofs.LineFacts.{isnt}
+use Rattle.first_pass_tokens.proofs.Common.{cases_lt, or_parts, ampersand, dollar_sign, left_brace, right_brace, less_than, left_bracket, backslash, backquote}
+use Rattle.first_pass_tokens.proofs.Common.{pipe, right_bracket, exclamation_mark, full_stop, hyphen, Piece, Token, Left, Begins, nat_tests, Ready, Inline}
+use Rattle.first_pass_tokens.proofs.Common.{is_delimiter, delimiter_piece, backslash_piece_in, backquote_piece, run_at, is_quote, is_bracket_at, is_quick_at}
+use Rattle.first_pass_tokens.proofs.Common.{IsReadyAt, MaybeHtml, MaybeImage, MaybeLinkOpen, MaybeLinkClose, is_ascii_punctuation, isnt}
+use Rattle.first_pass_tokens.specs.Pieces.{special_found, special_piece, backslash_piece, bracket_piece, dot_piece, dash_found, dash_piece}
 use Rattle.first_pass_tokens.proofs.PieceFacts.{run_some, run_same}
 
 pub less_ready : (z : Inline) (at : ℕ) → slice_index z.text at ≡ less_than → (slice_index z.text (at + 1) == backslash) ≡ false

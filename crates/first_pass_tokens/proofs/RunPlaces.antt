@@ -1,10 +1,8 @@
 -- A delimiter run ends between two characters of the whole text.
 use Rattle.std.proofs.Common.{ℕ, ◌≡◌, ◌+◌, ◌-◌, ◌≤◌, ◌<◌, ◌||◌, true, List, length, take, slice_index, Option, IsCharBoundary, IsUtf8, subst, arith}
 use Rattle.std.proofs.Common.{length-take, get_or-take, take_all}
-use Rattle.std.proofs.lemmas.Bool.{cases_lt, cond_both}
-use Rattle.std.proofs.lemmas.Bool.Decides.{nat_tests}
-use Rattle.std.proofs.lemmas.Str.{IsCharBoundary-after_ascii}
-use Rattle.first_pass_tokens.specs.Pieces.{text_upto, is_delimiter, is_quote, run_size}
+use Rattle.first_pass_tokens.proofs.Common.{cases_lt, cond_both, nat_tests, text_upto, is_delimiter, is_quote, IsCharBoundary-after_ascii}
+use Rattle.first_pass_tokens.specs.Pieces.{run_size}
 use Rattle.first_pass_tokens.proofs.PieceFacts.{IsVisible, run_same}
 
 -- a byte of the first bytes of a text is a byte of the text

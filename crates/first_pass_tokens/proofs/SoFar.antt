@@ -1,27 +1,13 @@
 -- The part of a content that is read, and the tokens appended for it.
 use Rattle.std.proofs.Common.{ℕ, zero, suc, ◌≡◌, ◌⊎◌, ◌+◌, ◌-◌, ◌≤◌, ◌<◌, ◌==◌, min, Bool, true, false, List, ◌∷◌, ◌++◌, length, slice_index, Option, Result}
 use Rattle.std.proofs.Common.{Ok, Err, OnOk, IfOk, refl, sym, ap, subst, ◌∙◌, inl, inr, arith, le-leb, []}
-use Rattle.std.specs.declared.alloc.AllocError.{AllocError}
-use Rattle.std.proofs.lemmas.Bool.Decides.{nat_tests}
-use Rattle.std.proofs.lemmas.Bool.{cases_lt, or_left, cond_both, cond-true, cond-false}
-use Rattle.first_pass_items.specs.declared.cow_str.CowStr.{CowStr}
-use Rattle.first_pass_tokens.specs.Braces.{MathBraces, braces_after}
-use Rattle.first_pass_items.specs.declared.item.Item.{Item}
-use Rattle.first_pass_tree.specs.Forest.{Forest, with_text}
-use Rattle.first_pass_items.specs.Bytes.{backslash}
-use Rattle.first_pass_lines.specs.Lines.{is_white}
+use Rattle.first_pass_tokens.proofs.Common.{CowStr, Item, cases_lt, or_left, cond_both, cond-true, cond-false, backslash, Piece, MathBraces, braces_after, Left}
+use Rattle.first_pass_tokens.proofs.Common.{Begins, Token, Run, nat_tests, Ready, Inline, special_found, size, MakesPiece, AreMore, Spot, spot, ArePieces}
+use Rattle.first_pass_tokens.proofs.Common.{add_piece, add_pieces, breaks_by_backslash, line_end_len, line_break, IsCell, Forest, with_text, token, run_tokens}
+use Rattle.first_pass_tokens.proofs.Common.{add_token, add_tokens, add_text, with_tokens, AppendsLine, AppendsCell, is_white, TokenStart, AllocError, HeldText}
 use Rattle.first_pass_walk.specs.Walk.{is_special}
-use Rattle.first_pass_tokens.specs.declared.line.HeldText.{HeldText}
-use Rattle.first_pass_tokens.specs.declared.pieces.Piece.{Piece}
-use Rattle.first_pass_tokens.specs.declared.pieces.Piece.TheVariants.{Left, Begins, Token, Run}
-use Rattle.first_pass_tokens.specs.Chains.{token, run_tokens, add_token, add_tokens, add_text}
-use Rattle.first_pass_tokens.specs.declared.pieces.TokenStart.{TokenStart}
-use Rattle.first_pass_tokens.specs.declared.pieces.TokenStart.TheVariants.{Ready}
-use Rattle.first_pass_tokens.specs.NamedTexts.{MakesPiece, AreMore}
-use Rattle.first_pass_tokens.specs.Pieces.{Inline, found_at, special_found, size}
-use Rattle.first_pass_tokens.specs.LineTokens.{Spot, spot, content_ends_at, ArePieces, add_piece, add_pieces, text_end, breaks_by_backslash}
-use Rattle.first_pass_tokens.specs.LineTokens.{backslashes_at_end, blanks_at_end, line_end_len, line_break, IsCell}
-use Rattle.first_pass_tokens.specs.TreeTokens.{with_tokens, AppendsLine, AppendsCell}
+use Rattle.first_pass_tokens.specs.Pieces.{found_at}
+use Rattle.first_pass_tokens.specs.LineTokens.{content_ends_at, text_end, backslashes_at_end, blanks_at_end}
 use Rattle.first_pass_tokens.specs.HeldText.{held_after, tree_after, IsHeldTo}
 use Rattle.first_pass_tokens.proofs.PieceFacts.{IsPieceAt, IsMark, mark_facts, piece_fits, markup_plain}
 use Rattle.first_pass_tokens.proofs.ChainLemmas.{add_text-none, add_text-joined, with_tokens-text, with_tokens-add, with_tokens-adds, with_token-plain}

@@ -1,7 +1,6 @@
 -- Facts for a caller that adds a block: it opens the block, adds its children and closes it.
 use Rattle.std.proofs.Common.{◌≡◌, ℕ, ◌+◌, List, ◌∷◌, ◌++◌, length, refl, ◌∙◌, ap, arith, append_assoc, []}
-use Rattle.first_pass_tree.specs.declared.tree_index.TreeIndex.{TreeIndex}
-use Rattle.first_pass_tree.specs.Forest.{Forest, modify, at_depth, added, block_of, appended, pushed, popped, modified}
+use Rattle.first_pass_tree.proofs.Common.{TreeIndex, Forest, modify, at_depth, added, block_of, appended, pushed, popped, modified}
 
 pub at_depth-append : {T : Type 0} (d : ℕ) (xs ys : List (ℕ × T)) → at_depth d (xs ++ ys) ≡ at_depth d xs ++ at_depth d ys
 at_depth-append d [] ys = refl

@@ -1,9 +1,6 @@
 -- The body of a node, after nodes change.
 use Rattle.std.proofs.Common.{◌≡◌, ℕ, zero, suc, ◌<◌, List, ◌∷◌, slice_get, Option, Some, refl, ap, arith, option_map, []}
-use Rattle.first_pass_items.specs.declared.item.Item.{Item}
-use Rattle.first_pass_items.specs.declared.item.ItemBody.{ItemBody}
-use Rattle.first_pass_tree.specs.declared.tree_index.TreeIndex.{TreeIndex}
-use Rattle.first_pass_tree.specs.Forest.{Forest, modify, body_at, item_at}
+use Rattle.first_pass_tree.proofs.Common.{TreeIndex, Forest, modify, body_at, item_at, Item, ItemBody}
 
 -- a change that keeps the body
 pub body-kept : (nodes : List (ℕ × Item)) (place i : ℕ) (g : Item → Item)

@@ -1,8 +1,6 @@
 -- Facts about a tree that a caller keeps over several calls.
 use Rattle.std.proofs.Common.{◌≡◌, ℕ, ◌+◌, List, ◌∷◌, ◌++◌, length, arith, append_assoc, length-append, []}
-use Rattle.std.proofs.lemmas.List.{length-map, map-append, get_or_append_left}
-use Rattle.first_pass_tree.specs.declared.tree_index.TreeIndex.{TreeIndex}
-use Rattle.first_pass_tree.specs.Forest.{Forest, IsChild, appended, added, at_depth}
+use Rattle.first_pass_tree.proofs.Common.{TreeIndex, Forest, IsChild, appended, added, at_depth, length-map, map-append, get_or_append_left}
 use Rattle.first_pass_tree.proofs.Blocks.{at_depth-append}
 
 -- a child is still a child after nodes are added to the end of the list

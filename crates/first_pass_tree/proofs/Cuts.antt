@@ -2,12 +2,8 @@
 use Rattle.std.proofs.Common.{◌≡◌, ℕ, ◌+◌, ◌-◌, ◌≤◌, suc, zero, List, ◌∷◌, ◌++◌, length, take, drop, Some, None, true, false, nat_lt, if◌then◌else◌, get_or}
 use Rattle.std.proofs.Common.{IfSome, Option, refl, sym, ◌∙◌, ap, subst, arith, take-take, take-append-drop, length-append, length-take-le, length-take}
 use Rattle.std.proofs.Common.{length-drop, get_or-drop, []}
-use Rattle.std.proofs.lemmas.List.{drop-take, map-append, length-map, take-map, drop-map}
-use Rattle.std.proofs.lemmas.Bool.Decides.{nat_tests}
-use Rattle.first_pass_tree.specs.declared.tree_index.TreeIndex.{TreeIndex}
-use Rattle.first_pass_items.specs.declared.item.Item.{Item}
-use Rattle.first_pass_tree.specs.Forest.{Forest, IsForest, IsLastAt, IsOpenPath, IsPreorder, depths, cut_tokens, is_single_before, cut_siblings, last_child}
-use Rattle.first_pass_tree.specs.Forest.{last_before, open_place}
+use Rattle.first_pass_tree.proofs.Common.{TreeIndex, Forest, IsForest, IsLastAt, IsOpenPath, IsPreorder, depths, cut_tokens, is_single_before, cut_siblings}
+use Rattle.first_pass_tree.proofs.Common.{last_child, last_before, open_place, Item, drop-take, map-append, length-map, take-map, drop-map, nat_tests}
 use Rattle.first_pass_tree.proofs.Depths.{preorder-take, path-edit, take-edit, open-last}
 use Rattle.first_pass_tree.proofs.Moves.{last_before-is}
 

@@ -1,12 +1,9 @@
 -- Lists of depths: the last index of a depth, and open paths, after an edit.
 use Rattle.std.proofs.Common.{◌≡◌, ℕ, ◌+◌, ◌-◌, ◌<◌, ◌≤◌, suc, zero, List, ◌∷◌, ◌++◌, length, get_or, take, drop, nat_lt, true, sym, ap, ◌∙◌, arith}
 use Rattle.std.proofs.Common.{get_or-take, get_or-drop, length-take-le, length-drop, []}
-use Rattle.std.proofs.lemmas.Bool.{cases_lt}
-use Rattle.std.proofs.lemmas.Bool.Decides.{nat_tests}
-use Rattle.std.proofs.lemmas.List.{places, get_or_append_left, get_or_push, length_push}
+use Rattle.first_pass_tree.proofs.Common.{TreeIndex, IsLastAt, IsOpenPath, IsPreorder, end_of, open_place, places, get_or_append_left, get_or_push, length_push}
+use Rattle.first_pass_tree.proofs.Common.{nat_tests, cases_lt}
 use Rattle.std.proofs.lemmas.List.Sums.{prefix_len_passes, prefix_len_stops}
-use Rattle.first_pass_tree.specs.declared.tree_index.TreeIndex.{TreeIndex}
-use Rattle.first_pass_tree.specs.Forest.{IsLastAt, IsOpenPath, IsPreorder, end_of, open_place}
 
 -- of the last indices of two depths, that of the greater depth comes later
 pub last-order : (ds : List ℕ) (d e i j : ℕ) → IsLastAt ds d i → IsLastAt ds e j → d < e → i < j

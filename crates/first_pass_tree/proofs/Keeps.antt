@@ -2,20 +2,13 @@
 use Rattle.std.proofs.Common.{◌≡◌, ℕ, ◌+◌, ◌-◌, ◌<◌, ◌≤◌, ◌^◌, suc, zero, List, ◌∷◌, ◌++◌, length, get_or, set, take, drop, map, Some, None, true, false, Bool}
 use Rattle.std.proofs.Common.{nat_lt, ◌≢◌, ◌⊎◌, reverse, slice_get, IfSome, Option, refl, sym, ◌∙◌, ap, subst, ⊎_elim, arith, add-one, length-append}
 use Rattle.std.proofs.Common.{get_or-drop, get_or-take, length-take-le, length-drop, get_or-set_other, length-set, insert, option_map, []}
-use Rattle.std.proofs.lemmas.List.{length-reverse, get_or-reverse, map-append, length-map, take-map, get_or-map, take_more, reverse-append, get_or_at}
-use Rattle.std.proofs.lemmas.List.{map-set}
+use Rattle.first_pass_tree.proofs.Common.{TreeIndex, Forest, IsForest, IsLastAt, IsOpenPath, IsPreorder, depths, item_at, modify, run_end, end_of, sibling_of}
+use Rattle.first_pass_tree.proofs.Common.{in_table, in_table_by, appended, popped, cut_to, kept_after, childless, wrapped, map_from, deeper, IsShallow}
+use Rattle.first_pass_tree.proofs.Common.{open_place, IsChild, Item, length-reverse, get_or-reverse, map-append, length-map, take-map, get_or-map, take_more}
+use Rattle.first_pass_tree.proofs.Common.{reverse-append, get_or_at, map-set, ItemBody, nat_tests, cases_lt, Table, TableHead, TableRow, TableCell}
 use Rattle.std.proofs.lemmas.Option.{slice_get-get_or}
 use Rattle.std.proofs.lemmas.List.Sums.{prefix_len-drop_yes, prefix_len-drop_no, prefix_len-drop_all, prefix_len-le-length, prefix_len_is}
-use Rattle.std.proofs.lemmas.Bool.Decides.{nat_tests}
-use Rattle.std.proofs.lemmas.Bool.{cases_lt}
-use Rattle.first_pass_tree.specs.declared.tree_index.TreeIndex.{TreeIndex}
 use Rattle.first_pass_items.specs.declared.item.AlignmentIndex.{AlignmentIndex}
-use Rattle.first_pass_items.specs.declared.item.Item.{Item}
-use Rattle.first_pass_items.specs.declared.item.ItemBody.{ItemBody}
-use Rattle.first_pass_items.specs.declared.item.ItemBody.TheVariants.{Table, TableHead, TableRow, TableCell}
-use Rattle.first_pass_tree.specs.Forest.{Forest, IsForest, IsLastAt, IsOpenPath, IsPreorder, depths, item_at, modify, run_end, end_of, sibling_of, in_table}
-use Rattle.first_pass_tree.specs.Forest.{in_table_by, appended, popped, cut_to, kept_after, childless, wrapped, map_from, deeper, IsShallow, open_place}
-use Rattle.first_pass_tree.specs.Forest.{IsChild}
 use Rattle.first_pass_tree.proofs.Depths.{IsEdit, last-edit, path-edit, append-edit, take-edit, last-push, path-last_depth, preorder-append, preorder-take}
 use Rattle.first_pass_tree.proofs.Depths.{open-last, last-order, depth-small, before-end}
 

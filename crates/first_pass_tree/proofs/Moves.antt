@@ -1,12 +1,8 @@
 -- Siblings moved out of a list of depths.
 use Rattle.std.proofs.Common.{◌≡◌, ◌≢◌, ℕ, ◌+◌, ◌-◌, ◌<◌, ◌≤◌, suc, zero, List, ◌∷◌, length, get_or, map, Some, true, false, Bool, eqb, cond, IfSome, IsSomeAnd}
 use Rattle.std.proofs.Common.{Option, refl, sym, ◌∙◌, ap, subst, ⊎_elim, arith, []}
-use Rattle.std.proofs.lemmas.List.{length-map}
-use Rattle.std.proofs.lemmas.Bool.{cases_lt, cases_eq}
-use Rattle.std.proofs.lemmas.Bool.Decides.{nat_tests}
-use Rattle.first_pass_tree.specs.declared.tree_index.TreeIndex.{TreeIndex}
-use Rattle.first_pass_tree.specs.Forest.{Forest, IsForest, IsLastAt, IsPreorder, IsChildOfCurrent, CanMoveFrom, depths, map_from, shallower}
-use Rattle.first_pass_tree.specs.Forest.{end_of, last_before, moved_from}
+use Rattle.first_pass_tree.proofs.Common.{TreeIndex, Forest, IsForest, IsLastAt, IsPreorder, IsChildOfCurrent, CanMoveFrom, depths, map_from, shallower, end_of}
+use Rattle.first_pass_tree.proofs.Common.{last_before, moved_from, length-map, nat_tests, cases_lt, cases_eq}
 use Rattle.first_pass_tree.proofs.Depths.{IsEdit, path-edit, last-order, open-last, at-end}
 use Rattle.first_pass_tree.proofs.Keeps.{run-within, map_from-length}
 

@@ -1,12 +1,10 @@
 -- The recorded subtrees, after some are removed and after the depths of the tree change.
 use Rattle.std.proofs.Common.{◌≡◌, ℕ, ◌+◌, ◌<◌, ◌≤◌, ◌==◌, true, suc, zero, List, ◌∷◌, ◌++◌, length, get_or, set, take, reverse, IfSome, Option, Some, refl}
 use Rattle.std.proofs.Common.{sym, ◌∙◌, ap, subst, arith, take_all, length-set, length-append, length-take-le, take-take, get_or-take, []}
-use Rattle.std.proofs.lemmas.Bool.Decides.{nat_tests}
-use Rattle.std.proofs.lemmas.List.{reverse-append, length-reverse, take_more_set, length-map, take-append-le, take-map}
+use Rattle.first_pass_tree.proofs.Common.{TreeIndex, Forest, IsForest, IsLastAt, depths, map_from, reverse-append, length-reverse, take_more_set, length-map}
+use Rattle.first_pass_tree.proofs.Common.{take-append-le, take-map, nat_tests}
 use Rattle.first_pass_tree.specs.declared.subtrees.Subtree.{Subtree}
-use Rattle.first_pass_tree.specs.declared.tree_index.TreeIndex.{TreeIndex}
 use Rattle.first_pass_tree.specs.Subtrees.{IsSubtree, AreSubtrees, IsTree, subtree, within_first, ended_last, ended, last_between, left_between}
-use Rattle.first_pass_tree.specs.Forest.{Forest, IsForest, IsLastAt, depths, map_from}
 use Rattle.first_pass_tree.proofs.Keeps.{rev_take, set-is, modify-set, depths-modify, map_from-length}
 
 -- the subtrees end before a greater index too

@@ -1,12 +1,7 @@
 -- Making the paragraphs of a list tight, one node after the other.
 use Rattle.std.proofs.Common.{◌≡◌, ◌≢◌, ℕ, zero, suc, ◌+◌, ◌<◌, ◌≤◌, ◌-◌, ◌==◌, nat_lt, true, false, List, ◌∷◌, length, slice_index, Some, refl, sym, ap, subst}
 use Rattle.std.proofs.Common.{◌∙◌, arith, []}
-use Rattle.std.proofs.lemmas.Bool.Decides.{nat_tests}
-use Rattle.std.proofs.lemmas.List.{length-map}
-use Rattle.first_pass_items.specs.declared.item.Item.{Item}
-use Rattle.first_pass_items.specs.declared.item.ItemBody.{ItemBody}
-use Rattle.first_pass_items.specs.declared.item.ItemBody.TheVariants.{Paragraph}
-use Rattle.first_pass_tree.specs.Forest.{Forest, depths, modify, body_at, end_of}
+use Rattle.first_pass_tree.proofs.Common.{Forest, depths, modify, body_at, end_of, Item, length-map, ItemBody, nat_tests, Paragraph}
 use Rattle.first_pass_tree.specs.Tight.{tight_body, tightened, tight_run, tight_at, tight_node, with_tight_node, tight_from}
 use Rattle.first_pass_tree.proofs.Depths.{at-end, before-end}
 use Rattle.first_pass_tree.proofs.Keeps.{run-within}

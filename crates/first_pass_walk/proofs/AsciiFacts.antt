@@ -1,7 +1,6 @@
 -- Punctuation among the ASCII characters.
 use Rattle.std.proofs.Common.{◌≡◌, ℕ, ◌<◌, Bool, true, not, cond, ◌||◌, refl, arith}
-use Rattle.std.proofs.lemmas.Bool.Decides.{nat_tests}
-use Rattle.std.specs.Char.{is_ascii_punctuation}
+use Rattle.first_pass_walk.proofs.Common.{nat_tests, is_ascii_punctuation}
 use Rattle.ucd_table.proofs.Computing.{tables}
 use Rattle.ucd_table.proofs.Facts.{Stepped-below}
 use Rattle.ucd_category.specs.GeneralCategory.{general_category}

@@ -1,13 +1,9 @@
 -- Facts on the characters beside a delimiter run.
-use Rattle.std.proofs.Common.{Bool, true, false, not, cond, ◌&&◌, ◌||◌, ◌≡◌, ℕ, ◌-◌, List, [], ◌∷◌, ◌++◌, length, take, Option, Some, None, MatchOption}
-use Rattle.std.proofs.Common.{IfSome, refl, sym, ap, ◌∙◌, subst, arith, length-append, append-nil, slice_get, encode_utf8, chars, IsUtf8}
-use Rattle.std.specs.Char.{IsScalar, is_whitespace}
+use Rattle.std.proofs.Common.{Bool, true, false, not, cond, ◌&&◌, ◌||◌, ◌≡◌, ℕ, ◌-◌, List, [], ◌∷◌, ◌++◌, length, take, Option, Some, None, MatchOption, IfSome}
+use Rattle.std.proofs.Common.{refl, sym, ap, ◌∙◌, subst, arith, length-append, append-nil, slice_get, encode_utf8, chars, IsUtf8}
+use Rattle.first_pass_walk.proofs.Common.{nat_tests, IsScalar, is_whitespace, slice_get_read, asterisk, underscore, DelimiterRun}
 use Rattle.std.proofs.lemmas.Str.{IsUtf8-encode, IsUtf8-take, IsCharBoundary-at_seam, chars-append, chars_past_char, chars-nil}
-use Rattle.std.proofs.lemmas.Bool.Decides.{nat_tests}
-use Rattle.std.proofs.lemmas.Option.{slice_get_read}
 use Rattle.std.proofs.Math.Seq.{take-append_seam, get_or-append_seam}
-use Rattle.first_pass_items.specs.Bytes.{asterisk, underscore}
-use Rattle.first_pass_walk.specs.declared.flank.DelimiterRun.{DelimiterRun}
 use Rattle.first_pass_walk.specs.Flank.{last_char, is_punctuation, can_open, can_close, opens_between, closes_between}
 use Rattle.first_pass_walk.specs.Flanking.{is_left_flanking, is_right_flanking, underscore_opens, underscore_closes, GoesBy}
 

@@ -1,3 +1,4 @@
+pub mod Common
 pub mod StopLemmas
 pub mod WalkFacts
 pub mod WalkLemmas

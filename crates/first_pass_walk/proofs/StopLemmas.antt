@@ -1,12 +1,10 @@
 -- The set bits of a mask, and the bytes that they stand for.
 use Rattle.std.proofs.Common.{◌≡◌, ◌⊎◌, inl, inr, ℕ, zero, suc, ◌+◌, ◌-◌, ◌/◌, ◌%◌, ◌^◌, ◌<◌, ◌≤◌, ◌==◌, ◌*◌, Bool, false, List, slice_index, Option, Some}
 use Rattle.std.proofs.Common.{None, IfNone, subst, w64, bit_and, refl, sym, ap, ◌∙◌, arith, pow_pos, pow-add}
-use Rattle.std.proofs.lemmas.Bool.{cases_lt, cases_eq}
-use Rattle.std.proofs.lemmas.Nat.Bits.{bit_at_lowest, bit_at-suc, bit_at-lt, bit_at_and, bit_at_above, bit_at-trailing_zeros}
+use Rattle.first_pass_walk.proofs.Common.{bit_at_lowest, bit_at-suc, bit_at-lt, bit_at_and, bit_at_above, bit_at-trailing_zeros, bit_at, trailing_zeros}
+use Rattle.first_pass_walk.proofs.Common.{cases_lt, cases_eq, is_marked, is_passed, AreWordStops, IsFirstStop, IsNextMarked, SparesWords}
 use Rattle.std.proofs.lemmas.Nat.{div_below}
 use Rattle.std.proofs.Math.Nat.{div-div-eq-div-mul}
-use Rattle.std.specs.Int.{bit_at, trailing_zeros}
-use Rattle.first_pass_walk.specs.Walk.{is_marked, is_passed, AreWordStops, IsFirstStop, IsNextMarked, SparesWords}
 
 pub if_none : {X P Q : Type 0} (o : Option X) → (P → Q) → IfNone o P → IfNone o Q
 if_none None f h = f h

@@ -1,12 +1,10 @@
 -- Facts on the special bytes.
 use Rattle.std.proofs.Common.{◌≡◌, inl, inr, ℕ, ◌<◌, nat_lt, Bool, true, false, true≢false, ◌==◌, ◌&&◌, ◌||◌, not, List, ap, sym, refl, ◌∙◌, arith}
-use Rattle.std.proofs.lemmas.Bool.{cases_Bool}
-use Rattle.std.proofs.lemmas.Bool.Decides.{nat_tests}
-use Rattle.first_pass_items.specs.Bytes.{space}
+use Rattle.first_pass_walk.proofs.Common.{cases_Bool, MarksSpecial, is_passed, SparesWords, nat_tests, space}
 use Rattle.first_pass_items.specs.declared.option_set.Options.{Options}
 use Rattle.first_pass_lines.specs.Lines.{is_line_end}
 use Rattle.first_pass_lines.proofs.LineFacts.{isnt}
-use Rattle.first_pass_walk.specs.Walk.{is_special, MarksSpecial, is_passed, SparesWords}
+use Rattle.first_pass_walk.specs.Walk.{is_special}
 
 and_off : (t u : Bool) → u ≡ false → (t && u) ≡ false
 and_off true u e = e

@@ -1,7 +1,7 @@
 -- A walk from any offset past the end makes no calls.
 use Rattle.std.proofs.Common.{ℕ, ◌≡◌, ◌⊎◌, subst, ◌≤◌, ◌<◌, Bool, List, ◌∷◌, length, Option, inl, inr, arith, []}
+use Rattle.first_pass_walk.proofs.Common.{Marking, Walks, IsNextMarked}
 use Rattle.first_pass_walk.specs.declared.walk.LoopInstruction.{LoopInstruction}
-use Rattle.first_pass_walk.specs.Walk.{Marking, Walks, IsNextMarked}
 
 next_within : {lut : List Bool} {bytes : List ℕ} {ix j : ℕ} → IsNextMarked lut bytes ix j → (ix ≤ j) × (j < length bytes)
 next_within next = (next.from, next.within)

@@ -1,12 +1,8 @@
 -- A run between two ASCII letters or digits.
 use Rattle.std.proofs.Common.{◌≡◌, ℕ, ◌+◌, ◌-◌, ◌<◌, ◌==◌, ◌++◌, Bool, true, false, List, length, take, drop, Some, IsUtf8, slice_index, refl, sym, ap, ◌∙◌}
 use Rattle.std.proofs.Common.{arith, get_or-drop, length-drop, length-take-le, encode_utf8, slice_range, slice_get, get_or-take}
-use Rattle.std.specs.Char.{IsScalar, is_whitespace, is_ascii_alphanumeric}
-use Rattle.std.proofs.lemmas.Bool.Decides.{nat_tests}
-use Rattle.std.proofs.lemmas.List.{take_more, drop_more}
+use Rattle.first_pass_walk.proofs.Common.{nat_tests, IsScalar, is_whitespace, is_ascii_alphanumeric, underscore, pipe, DelimiterRun, take_more, drop_more}
 use Rattle.std.proofs.lemmas.Str.{IsUtf8-take, IsUtf8-drop, IsCharBoundary-before_ascii, IsCharBoundary-after_ascii, chars_past_char, encode_ascii}
-use Rattle.first_pass_items.specs.Bytes.{underscore, pipe}
-use Rattle.first_pass_walk.specs.declared.flank.DelimiterRun.{DelimiterRun}
 use Rattle.first_pass_walk.specs.Flank.{is_punctuation, can_open, can_close, opens_between, closes_between, first_char, last_char, ends_with_pipe}
 use Rattle.first_pass_walk.proofs.AsciiFacts.{punctuation_in_ascii}
 use Rattle.first_pass_walk.proofs.FlankFacts.{last_char_by}

@@ -1,7 +1,7 @@
 -- An added leaf block is the one that its kind opens at its place, and fits there, from the contract of its parser for the
 -- offset after the indentation.
-use Rattle.std.proofs.Common.{inl, ℕ, refl, sym, ap, subst, arith, ◌≡◌, ◌≤◌, length, IsCharBoundary, ◌∙◌, Bool, ◌⊎◌, inr, ◌+◌, true, false, List, [], ◌∷◌}
-use Rattle.std.proofs.Common.{drop, Option, Some, None, if◌then◌else◌, ◌<◌, IsUtf8, nat_lt, min, option_map}
+use Rattle.std.proofs.Common.{inl, ℕ, refl, sym, ap, subst, arith, ◌≡◌, ◌≤◌, length, IsCharBoundary, ◌∙◌, Bool, ◌⊎◌, inr, ◌+◌, true, false, List, [], ◌∷◌, drop}
+use Rattle.std.proofs.Common.{Option, Some, None, if◌then◌else◌, ◌<◌, IsUtf8, nat_lt, min, option_map}
 use Rattle.first_pass_grammar.proofs.Common.{Place, offset, line_end, place_at, line_rest, start_of, IsPlaceOf, line_place, moved_columns, Kind, HtmlToBlank}
 use Rattle.first_pass_grammar.proofs.Common.{unindented, is_blank_rest, Blank, IndentedCode, Metadata, HtmlToEnd, ThematicBreak, AtxHeading, FencedCode}
 use Rattle.first_pass_grammar.proofs.Common.{all_taken, IsKind, document, Document, rule_block, heading_block, lines_from, Item, Forest, IsForest, added}
@@ -11,30 +11,21 @@ use Rattle.first_pass_grammar.proofs.Common.{IsHtml, until_end, IsOrderedTo, wit
 use Rattle.first_pass_grammar.proofs.Common.{OpensLeaf, OpensAs, OpensExtent, BlockEnd, code_fence, hrule_len, IsFencedCode, IsMetadata, GrowsBy, Elsewhere}
 use Rattle.first_pass_grammar.proofs.Common.{FitsBetween, counted_nodes, nat_tests, none-some, prefix_len, line_len-eol, HeadingLevel, html_end, is_paragraph}
 use Rattle.first_pass_grammar.proofs.Common.{is_run, some_mapped}
-use Rattle.first_pass_blocks.proofs.Common.{tables_in, names_of, NamesMore, tables_of, Ready, closed_in, list_finished, top_body, is_list, with_tree}
-use Rattle.first_pass_blocks.proofs.Common.{PassState, allocs_of, state_of, source_options, source_text, tree_of, source_of, front_of, ReadsLeaf}
-use Rattle.first_pass_blocks.proofs.Common.{ordered_leaf, block_ordered, ordered_finished, unindented_later, IsStateAtPlace, path_added, list_finished_blank}
-use Rattle.first_pass_blocks.proofs.Common.{block_added, list_finished_named, kept_of, list_finished_whole, block_whole, list_finished_count, block_count}
-use Rattle.first_pass_blocks.proofs.Common.{leaf_left, left_before, path_of, context_of, all_keep, place_end, after_line_at, html_to_blank, kind_says, Says}
-use Rattle.first_pass_blocks.proofs.Common.{IsOrderedAt, IsReadFrom, line_end_of, told_none, ready_added, list_finished_none, marked_kind, Container}
-use Rattle.first_pass_blocks.proofs.Common.{path_finished, extends_none, first_at, first_is, AddsBetween, own_added, AddsHeading, OrderedIn}
+use Rattle.first_pass_blocks.proofs.Common.{tables_in, names_of, NamesMore, tables_of, Ready, closed_in, list_finished, top_body, is_list, with_tree, PassState}
+use Rattle.first_pass_blocks.proofs.Common.{allocs_of, state_of, source_options, source_text, tree_of, source_of, front_of, ReadsLeaf, ordered_leaf}
+use Rattle.first_pass_blocks.proofs.Common.{block_ordered, ordered_finished, unindented_later, IsStateAtPlace, path_added, list_finished_blank, block_added}
+use Rattle.first_pass_blocks.proofs.Common.{list_finished_named, kept_of, list_finished_whole, block_whole, list_finished_count, block_count, leaf_left}
+use Rattle.first_pass_blocks.proofs.Common.{left_before, path_of, context_of, all_keep, place_end, after_line_at, html_to_blank, kind_says, Says, IsOrderedAt}
+use Rattle.first_pass_blocks.proofs.Common.{IsReadFrom, line_end_of, told_none, ready_added, list_finished_none, marked_kind, Container, path_finished}
+use Rattle.first_pass_blocks.proofs.Common.{extends_none, first_at, first_is, AddsBetween, own_added, AddsHeading, OrderedIn, BlockPass, Entries, ordered_tree}
+use Rattle.first_pass_blocks.proofs.Common.{kind_named, kind_whole, kind_notes, block_notes, list_finished_notes, kind_in_other, kind_away, LeafBegins}
+use Rattle.first_pass_blocks.proofs.Common.{IsFoundAt, AreNested, IsOrderedFrom, list_finished_outside, added_outside, tree_closes, between-any, kind_silent}
 use Rattle.first_pass_blocks.specs.Adding.{AddsLeaf, IsFoundIn}
 use Rattle.first_pass_kinds.specs.declared.kinds.MarkedLeaf.{MarkedLeaf}
 use Rattle.first_pass_leaves.specs.RawBlocks.{IsPlaceAt, AddsRaw, html_to_end, code_after, AddsIndented, metadata_after, fenced_after}
-use Rattle.first_pass_blocks.specs.declared.state.BlockPass.{BlockPass}
-use Rattle.first_pass_containers.proofs.OrderSteps.{ordered_tree}
 use Rattle.first_pass_blocks.proofs.LinkDefinitions.{written_stay}
-use Rattle.first_pass_names.specs.TableEntries.{Entries}
-use Rattle.first_pass_order.proofs.FootnotesKept.{kind_notes, block_notes, list_finished_notes}
-use Rattle.first_pass_order.proofs.NamedLemmas.{kind_named}
 use Rattle.first_pass_blocks.proofs.FootnoteLabels.{labels_stay}
-use Rattle.first_pass_order.proofs.WholeKept.{kind_whole}
-use Rattle.first_pass_containers.proofs.Leaves.FirstItems.{kind_silent}
-use Rattle.first_pass_order.specs.Ordered.{AreNested, IsOrderedFrom}
-use Rattle.first_pass_containers.proofs.Leaves.LeafLemmas.{kind_in_other, kind_away, LeafBegins}
-use Rattle.first_pass_order.proofs.Nests.{list_finished_outside, added_outside, tree_closes}
 use Rattle.first_pass_order.specs.LeafBlocks.{AddsKind}
-use Rattle.first_pass_kinds.specs.BlockStart.{IsFoundAt}
 use Rattle.first_pass_kinds.specs.declared.kinds.BlockStart.TheVariants.{HtmlToBlank as FoundHtml}
 use Rattle.first_pass_grammar.specs.HtmlBlocks.{until_blank}
 use Rattle.first_pass_leaves.proofs.RawOrder.{first_line, ArePlaced, IsPlaced, html_few, ends_before_next, kept_last, indented_fits, fenced_fits, metadata_fits}
@@ -44,7 +35,6 @@ use Rattle.first_pass_leaves.proofs.FencedLemmas.{fence_plain}
 use Rattle.first_pass_completion.proofs.Closings.{leaf_closes}
 use Rattle.first_pass_scan.specs.LeafLines.{is_rule_byte, in_rule, rule_len}
 use Rattle.first_pass_grammar.specs.CodeBlocks.{metadata_lines, fenced_lines}
-use Rattle.first_pass_grammar.proofs.Order.Orders.{between-any}
 use Rattle.first_pass_leaves.proofs.HeadingLemmas.{prefix_in}
 use Rattle.first_pass_kinds.specs.declared.kinds.MarkedLeaf.TheVariants.{FencedCode as MarkedFence, AtxHeading as MarkedHeading, IndentedCode as MarkedCode}
 use Rattle.first_pass_kinds.specs.declared.kinds.MarkedLeaf.TheVariants.{Metadata as MarkedMetadata, HtmlToEnd as MarkedHtml, ThematicBreak as MarkedBreak}

@@ -9,35 +9,26 @@ use Rattle.first_pass_grammar.proofs.Common.{lines_from, Line, OpensLeaf, Names,
 use Rattle.first_pass_grammar.proofs.Common.{left_bracket, is_plain, begins_plain, plain_begins, Options}
 use Rattle.first_pass_blocks.proofs.Common.{text_named, tables_of, tables_in, names_of, NamesMore, extends_equal, extends_none, TablesAreWritten, with_tree}
 use Rattle.first_pass_blocks.proofs.Common.{is_list, top_body, list_finished, PassState, line_end_at, AddsBetween, path_of, allocs_of, context_in, state_of}
-use Rattle.first_pass_blocks.proofs.Common.{source_of, source_options, source_text, tree_of, closed_in, Ready, IsReadTo, line_or, OrderedIn, ReadsLeaf}
-use Rattle.first_pass_blocks.proofs.Common.{IsLater, ReadsRun, PutsDefinitions, AddsText, no_table, count, list_finished_count, block_count, leaf_left}
-use Rattle.first_pass_blocks.proofs.Common.{left_before, path_finished, list_finished_blank, line_or-below, ordered_finished, ordered_leaf, place_before_end}
+use Rattle.first_pass_blocks.proofs.Common.{source_of, source_options, source_text, tree_of, closed_in, Ready, IsReadTo, line_or, OrderedIn, ReadsLeaf, IsLater}
+use Rattle.first_pass_blocks.proofs.Common.{ReadsRun, PutsDefinitions, AddsText, no_table, count, list_finished_count, block_count, leaf_left, left_before}
+use Rattle.first_pass_blocks.proofs.Common.{path_finished, list_finished_blank, line_or-below, ordered_finished, ordered_leaf, place_before_end}
 use Rattle.first_pass_blocks.proofs.Common.{unindented_later, IsStateAtPlace, ready_added, list_finished_none, block_added, list_finished_named}
-use Rattle.first_pass_blocks.proofs.Common.{list_finished_whole, kept_of, block_whole, all_keep, Source}
+use Rattle.first_pass_blocks.proofs.Common.{list_finished_whole, kept_of, block_whole, all_keep, Source, BlockPass, Entries, footdefs_of, upto_later}
+use Rattle.first_pass_blocks.proofs.Common.{title_begun_named, task_has_none, added_text_whole, task_shows, footnotes_in, ReadyLeaf, OrderedUpTo, notes}
+use Rattle.first_pass_blocks.proofs.Common.{NamesNone, block_notes, text_notes, task_names_none, list_finished_notes, title_begun_notes, ready_ended, text_away}
+use Rattle.first_pass_blocks.proofs.Common.{opens_flow, text_opens, ready_kept, away_left, title_begun_count, definitions_left_count, ReadsDefinitions}
+use Rattle.first_pass_blocks.proofs.Common.{text_silent_first, text_flat, IsTaskMark, mark_has, EndsListAt}
 use Rattle.first_pass_blocks.specs.Titles.{ReadsTextOrTitle}
 use Rattle.first_pass_items.specs.declared.item.ItemBody.TheVariants.{Paragraph as ParagraphBody}
 use Rattle.first_pass_grammar.specs.Kinds.{Paragraph}
 use Rattle.first_pass_lists.specs.Closing.{current_body, is_after_definition, title_begun, definitions_left, possible_title}
-use Rattle.first_pass_blocks.specs.declared.state.BlockPass.{BlockPass}
 use Rattle.first_pass_blocks.specs.declared.definition.RunEnd.TheVariants.{NextLine, Paragraph as TextAfter}
-use Rattle.first_pass_containers.specs.Positions.{ReadyLeaf, OrderedUpTo}
-use Rattle.first_pass_blocks.specs.Runs.{ReadsDefinitions}
 use Rattle.first_pass_containers.specs.Titles.{current_end, is_paragraph_last, title_read}
 use Rattle.first_pass_ready.proofs.AddedLemmas.{body_after}
-use Rattle.first_pass_order.proofs.CountLemmas.{title_begun_count, definitions_left_count}
 use Rattle.first_pass_order.proofs.DefinitionOrder.{ReadAfterDefinition, read_definitions_left, read_title_begun}
-use Rattle.first_pass_ready.proofs.FinishLemmas.{EndsListAt}
-use Rattle.first_pass_containers.proofs.Leaves.FirstItems.{text_silent_first, text_flat, IsTaskMark, mark_has}
-use Rattle.first_pass_containers.proofs.OrderSteps.{upto_later}
-use Rattle.first_pass_containers.proofs.Leaves.LeafLemmas.{ready_ended, text_away, opens_flow, text_opens, ready_kept, away_left}
 use Rattle.first_pass_ready.proofs.LeftBlocks.{left_is}
-use Rattle.first_pass_names.specs.TableEntries.{Entries, footdefs_of}
-use Rattle.first_pass_order.specs.Footnotes.{footnotes_in}
-use Rattle.first_pass_order.proofs.FootnotesKept.{notes, NamesNone, block_notes, text_notes, task_names_none, list_finished_notes, title_begun_notes}
-use Rattle.first_pass_order.proofs.NamedLemmas.{title_begun_named, task_has_none}
 use Rattle.first_pass_blocks.proofs.FootnoteLabels.{labels_stay}
 use Rattle.first_pass_order.proofs.DefinitionsWhole.{title_begun_whole}
-use Rattle.first_pass_order.proofs.WholeKept.{added_text_whole, task_shows}
 use Rattle.first_pass_blocks.proofs.LinkDefinitions.{written_stay, run_is_empty, puts_none}
 use Rattle.first_pass_blocks.specs.declared.definition.RunEnd.{RunEnd}
 use Rattle.first_pass_open.proofs.PlainLemmas.{plain_all}

@@ -6,14 +6,13 @@ use Rattle.first_pass_grammar.proofs.Common.{line_len, Place, offset, line_end, 
 use Rattle.first_pass_grammar.proofs.Common.{start_of-lines, no_braces, spot, Context, context, Names, Extends, NamesAlignments, document, lines_from}
 use Rattle.first_pass_grammar.proofs.Common.{headed_table, inserted, row_block, taking, TableSoFar, table_so_far, most_inserted, IsTable, IsText, within_top}
 use Rattle.first_pass_blocks.proofs.Common.{IsJustPushed, begun_item, opened_block, path_of, context_of, line_end_at, AddsBetween, with_below, AppendsRows}
-use Rattle.first_pass_blocks.proofs.Common.{AddsText}
+use Rattle.first_pass_blocks.proofs.Common.{AddsText, AddsPlainText}
 use Rattle.first_pass_tree.proofs.Blocks.{BlockCalls, block-built}
 use Rattle.first_pass_kinds.specs.TableHeads.{table_head_len}
 use Rattle.first_pass_order.proofs.HeadLines.{headed_has_line}
 use Rattle.first_pass_grammar.proofs.Names.TextsMore.{cells_more, rows_more}
 use Rattle.first_pass_open.proofs.BlockLemmas.{just_pushed}
 use Rattle.first_pass_open.proofs.PathLemmas.{AreIn, path_of-opened}
-use Rattle.first_pass_leaves.specs.Appends.{AddsPlainText}
 use Rattle.first_pass_tables.proofs.TableFits.{table_fits}
 
 -- the end of a line with a place

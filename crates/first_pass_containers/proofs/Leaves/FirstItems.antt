@@ -1,7 +1,7 @@
 -- No leaf block begins with a possible title; one that begins with a paragraph has no part of a table. The items of a text
 -- have a first one, and if that is no paragraph, none of them is one.
-use Rattle.std.proofs.Common.{◌≡◌, ℕ, Bool, true, false, List, [], ◌∷◌, drop, Option, Some, None, MatchOption, IfSome, refl, sym, ap, subst, ◌-◌, ◌++◌}
-use Rattle.std.proofs.Common.{length, true≢false, arith}
+use Rattle.std.proofs.Common.{◌≡◌, ℕ, Bool, true, false, List, [], ◌∷◌, drop, Option, Some, None, MatchOption, IfSome, refl, sym, ap, subst, ◌-◌, ◌++◌, length}
+use Rattle.std.proofs.Common.{true≢false, arith}
 use Rattle.first_pass_grammar.proofs.Common.{Alignment, HeadingLevel, Item, ItemBody, MaybeDefinitionListTitle, Table, TableHead, Options, Forest, Place}
 use Rattle.first_pass_grammar.proofs.Common.{offset, line_end, start_of, begins_paragraph, is_paragraph_body, BlankLine, Block, leaf_block, lines_from, Kind}
 use Rattle.first_pass_grammar.proofs.Common.{Blank, IndentedCode, Metadata, HtmlToEnd, HtmlToBlank, ThematicBreak, AtxHeading, FencedCode, LinkDefinitions}
@@ -9,18 +9,12 @@ use Rattle.first_pass_grammar.proofs.Common.{unindented, Document, document, aro
 use Rattle.first_pass_grammar.proofs.Common.{OpensText, OpensRun, OpensAs, headed_table, Taken, IsTable, taking, TableSoFar, table_so_far, most_inserted}
 use Rattle.first_pass_grammar.proofs.Common.{inserted, row_block, IsPlainText, IsText, IsUnderlined, plain_text, underline_first, heading_children}
 use Rattle.first_pass_grammar.proofs.Common.{ShowsNothing, AreEachNode, may_be_title, no_braces, spot, leaves, is_task_marker}
+use Rattle.first_pass_containers.proofs.Common.{path_of, Container, extends_none, Paragraph, IsSilentFirst, task_shows, tokens_show, text_silent, kind_holds}
+use Rattle.first_pass_containers.proofs.Common.{text_holds, IsNoParagraph, NoParagraph, tokens_flat, both_nodes, leaves_nodes, block_nodes, row_nodes}
+use Rattle.first_pass_containers.proofs.Common.{cells_nodes, rows_nodes}
 use Rattle.first_pass_items.specs.declared.item.ItemBody.TheVariants.{Paragraph as ParagraphBody, Heading as HeadingBody}
-use Rattle.first_pass_grammar.specs.declared.kind.Container.{Container}
-use Rattle.first_pass_grammar.specs.Kinds.{Paragraph}
-use Rattle.first_pass_completion.proofs.FlatBlocks.{kind_holds, text_holds, IsNoParagraph, NoParagraph, tokens_flat}
-use Rattle.first_pass_completion.proofs.SilentTexts.{text_silent}
-use Rattle.first_pass_grammar.proofs.WholeTables.TableMarks.{tokens_show}
-use Rattle.first_pass_grammar.proofs.Names.MoreNames.{extends_none}
-use Rattle.first_pass_open.specs.Path.{path_of}
 use Rattle.first_pass_order.specs.LeafBlocks.{AddsKind}
-use Rattle.first_pass_order.proofs.WholeKept.{IsSilentFirst, task_shows}
 use Rattle.first_pass_grammar.proofs.Each.EachToken.{AreEach, heading_children_each, lines_each}
-use Rattle.first_pass_grammar.proofs.Each.EachCell.{both_nodes, leaves_nodes, block_nodes, row_nodes, cells_nodes, rows_nodes}
 
 abbrev is_possible : ItemBody → Bool
 is_possible MaybeDefinitionListTitle = true

@@ -2,62 +2,43 @@
 -- after a definition, a paragraph may be the next title.
 use Rattle.std.proofs.Common.{◌≡◌, inl, inr, ℕ, suc, ◌+◌, ◌<◌, Bool, true, false, List, [], ◌∷◌, ◌++◌, length, map, drop, slice_get, Option, Some, None, refl}
 use Rattle.std.proofs.Common.{sym, ap, subst, ◌∙◌, arith, if◌then◌else◌, append-nil, option_and_then, true≢false}
-use Rattle.first_pass_grammar.proofs.Common.{length-map, Item, ItemBody, DefinitionList, MaybeDefinitionListTitle, BlockQuoteKind, ListFlags, TreeIndex}
-use Rattle.first_pass_grammar.proofs.Common.{Forest, IsForest, added, at_depth, body_at, Place, offset, line_end, IsPlaceOf, line_rest, place_at}
-use Rattle.first_pass_grammar.proofs.Common.{begins_paragraph, is_run, LeafBlock, Block, flowing_block, BlankLine, block_at, leaf_block, Tables}
-use Rattle.first_pass_grammar.proofs.Common.{with_definitions, unindented, IsKind, interrupts, is_ordinary_after_tag, Kind, Blank, FlowsOn, IsRun, kind_in}
-use Rattle.first_pass_grammar.proofs.Common.{Beyond, Ended, LinkEntry, with_links, Document, around, Level, Line, Inside, OpensLeaf, OpensAs, Opens}
-use Rattle.first_pass_grammar.proofs.Common.{Continues, AtPlace, OnlyALeaf, after_tag, OpensBeyond, OpensRun, TextOf, IsFirst, Opening, OpensText}
-use Rattle.first_pass_grammar.proofs.Common.{OpensBlockAt, OpensBy, next_block, lines_from, ended, DefinitionClosed, TitleAt, Frame, InDefinitions, AreBelow}
-use Rattle.first_pass_grammar.proofs.Common.{Closed, containers_of, IsPlain, AreEachNode, ShowsNothing, SilentFrom, SilentClosed, Options, body-kept}
-use Rattle.first_pass_grammar.proofs.Common.{modify-at, cases_lt, line_len, lines_at-line, lines_at-end, Context, front, columns_line_end, is_task_marker}
-use Rattle.first_pass_grammar.proofs.Common.{is_paragraph, start_at, taking, IsText, footnote_head_at, and-true, false_from_ne_true}
+use Rattle.first_pass_grammar.proofs.Common.{length-map, Item, ItemBody, DefinitionList, MaybeDefinitionListTitle, BlockQuoteKind, ListFlags, TreeIndex, Forest}
+use Rattle.first_pass_grammar.proofs.Common.{IsForest, added, at_depth, body_at, Place, offset, line_end, IsPlaceOf, line_rest, place_at, begins_paragraph}
+use Rattle.first_pass_grammar.proofs.Common.{is_run, LeafBlock, Block, flowing_block, BlankLine, block_at, leaf_block, Tables, with_definitions, unindented}
+use Rattle.first_pass_grammar.proofs.Common.{IsKind, interrupts, is_ordinary_after_tag, Kind, Blank, FlowsOn, IsRun, kind_in, Beyond, Ended, LinkEntry}
+use Rattle.first_pass_grammar.proofs.Common.{with_links, Document, around, Level, Line, Inside, OpensLeaf, OpensAs, Opens, Continues, AtPlace, OnlyALeaf}
+use Rattle.first_pass_grammar.proofs.Common.{after_tag, OpensBeyond, OpensRun, TextOf, IsFirst, Opening, OpensText, OpensBlockAt, OpensBy, next_block}
+use Rattle.first_pass_grammar.proofs.Common.{lines_from, ended, DefinitionClosed, TitleAt, Frame, InDefinitions, AreBelow, Closed, containers_of, IsPlain}
+use Rattle.first_pass_grammar.proofs.Common.{AreEachNode, ShowsNothing, SilentFrom, SilentClosed, Options, body-kept, modify-at, cases_lt, line_len}
+use Rattle.first_pass_grammar.proofs.Common.{lines_at-line, lines_at-end, Context, front, columns_line_end, is_task_marker, is_paragraph, start_at, taking}
+use Rattle.first_pass_grammar.proofs.Common.{IsText, footnote_head_at, and-true, false_from_ne_true}
+use Rattle.first_pass_containers.proofs.Common.{path_of, context_of, PassState, Container, get_front, Paragraph, task_shows, line_end_at, list_finished_none}
+use Rattle.first_pass_containers.proofs.Common.{open_below, frame-append, frame-ended, open_path, definitions_frame, HasFrame, tokens_show, ready_blank}
+use Rattle.first_pass_containers.proofs.Common.{silent_past, text_silent, opened_silent, ready_plain, kind_holds, end_there, CompletesAt, Tail, modify-append}
+use Rattle.first_pass_containers.proofs.Common.{tail, lvl, length-ended, opens_stays, completes-reended, open_nodes, Innermost, innermost_of, ends_past}
+use Rattle.first_pass_containers.proofs.Common.{ReadyLeaf, ReadyInQuote, ReadyTagged, ReadyLazy, ReadyText, deeper_nodes, AreIn, open_are_in, front-end}
 use Rattle.first_pass_items.specs.declared.item.ItemBody.TheVariants.{BlockQuote as BlockQuoteBody, List as ListBody}
 use Rattle.first_pass_grammar.specs.Blocks.{run_block}
-use Rattle.first_pass_grammar.specs.Kinds.{Paragraph}
 use Rattle.first_pass_completion.proofs.DefinitionSteps.{completes-possible_title}
-use Rattle.first_pass_completion.proofs.Extending.{tail, lvl, length-ended, opens_stays}
-use Rattle.first_pass_grammar.proofs.Sequences.Finishes.{CompletesAt, Tail}
-use Rattle.first_pass_completion.proofs.Flags.{completes-reended}
-use Rattle.first_pass_completion.proofs.FlatBlocks.{kind_holds}
-use Rattle.first_pass_completion.proofs.SilentTexts.{silent_past, text_silent, opened_silent}
-use Rattle.first_pass_grammar.proofs.Each.EachCell.{deeper_nodes}
-use Rattle.first_pass_grammar.proofs.WholeTables.TableMarks.{tokens_show}
-use Rattle.first_pass_grammar.proofs.Sequences.Tightening.{modify-append}
-use Rattle.first_pass_completion.proofs.States.{open_nodes}
-use Rattle.first_pass_open.specs.Path.{path_of, context_of}
-use Rattle.first_pass_grammar.proofs.Names.MoreNames.{get_front}
-use Rattle.first_pass_open.proofs.PathLemmas.{AreIn, open_are_in, front-end}
 use Rattle.first_pass_lists.specs.Closing.{with_tree, top_body, top_end, is_after_definition, title_begun, is_list, is_definition_list, possible_title}
 use Rattle.first_pass_lists.specs.Closing.{list_finished, blank_read_by, blank_read}
-use Rattle.first_pass_lists.specs.declared.state.PassState.{PassState}
 use Rattle.first_pass_ready.specs.State.{closed_in, AreOpen, ReadyAt, Ready}
-use Rattle.first_pass_containers.specs.Positions.{ReadyLeaf, ReadyInQuote, ReadyTagged, ReadyLazy, may_define, ReadyText}
+use Rattle.first_pass_containers.specs.Positions.{may_define}
 use Rattle.first_pass_containers.specs.TextsAdded.{IsTextAt}
 use Rattle.first_pass_containers.specs.Titles.{current_end}
 use Rattle.first_pass_ready.proofs.ClosedIn.{IsTop, top_of, level_of, open_level, closed_definition, takes_same, title_is}
 use Rattle.first_pass_ready.proofs.FinishLemmas.{EndsListAt, plain_by, OpensOther, ready_finished}
 use Rattle.first_pass_ready.proofs.LeftBlocks.{IsAfterDefinition, past_definition}
-use Rattle.first_pass_ready.proofs.OpenLemmas.{open_below, frame-append, frame-ended, open_path, definitions_frame, HasFrame}
-use Rattle.first_pass_ready.proofs.StateLemmas.{ready_plain}
 use Rattle.first_pass_containers.proofs.Leaves.FirstItems.{text_flat, mark_by}
-use Rattle.first_pass_order.proofs.LeftOrder.{end_there}
 use Rattle.first_pass_completion.proofs.Completions.{counted_after, completes-leaf, completes-blank, completes-block, completes-text}
-use Rattle.first_pass_open.proofs.PlaceLemmas.{ends_past}
-use Rattle.first_pass_grammar.specs.declared.kind.Container.{Container}
 use Rattle.first_pass_completion.proofs.Closings.{leaf_closes}
 use Rattle.first_pass_completion.proofs.Titles.{closed_after}
-use Rattle.first_pass_open.specs.Between.{line_end_at}
 use Rattle.first_pass_ready.proofs.AddedLemmas.{begun_at, closed_added, silent_begun, open_added, no_list_added}
 use Rattle.first_pass_ready.proofs.BegunLemmas.{depth_of, opens_bare}
-use Rattle.first_pass_lists.proofs.NoEmptyItem.{list_finished_none}
 use Rattle.first_pass_containers.proofs.OrderSteps.{list_finished_blank}
 use Rattle.first_pass_kinds.proofs.KindLemmas.{kind_says}
-use Rattle.first_pass_ready.proofs.EnterLemmas.{ready_blank}
 use Rattle.first_pass_containers.proofs.Openings.StartLemmas.{finishes_none}
 use Rattle.first_pass_order.proofs.OrderLemmas.{get_mid}
-use Rattle.first_pass_order.proofs.WholeKept.{task_shows}
-use Rattle.first_pass_ready.proofs.PopLemmas.{Innermost, innermost_of}
 
 -- a blank line directly in a block quote does not count
 counts_quoted : (options : Options) (frames : List Frame) (kind : Option BlockQuoteKind) (closed : Closed)

@@ -1,16 +1,16 @@
 -- The lines after the line in which something ends: a link reference definition, or the head of a footnote definition.
 -- The place where blocks continue after such a head, and the contents of a head that is read.
 use Rattle.std.proofs.Common.{◌≡◌, inl, inr, ℕ, zero, suc, ◌+◌, ◌-◌, ◌<◌, ◌≤◌, Bool, true, false, nat_lt, List, [], ◌∷◌, length, drop, slice_index, refl, sym}
-use Rattle.std.proofs.Common.{ap, ◌∙◌, arith, Option, Some, None, IsUtf8, IsCharBoundary, subst, length-drop, if◌then◌else◌, true≢false}
-use Rattle.std.proofs.Common.{drop-drop, get_or-drop, unwrap_or, option_and_then}
+use Rattle.std.proofs.Common.{ap, ◌∙◌, arith, Option, Some, None, IsUtf8, IsCharBoundary, subst, length-drop, if◌then◌else◌, true≢false, drop-drop, get_or-drop}
+use Rattle.std.proofs.Common.{unwrap_or, option_and_then}
 use Rattle.first_pass_grammar.proofs.Common.{cases_lt, nat_tests, drop_all, is_line_end, line_len, begins, is_white, blank_len, Place, offset, line_end}
 use Rattle.first_pass_grammar.proofs.Common.{IsPlaceOf, line_place, line_len-within, lines_at-line, lines_at-end, lines_beyond, lines_from, prefix_len, colon}
-use Rattle.first_pass_grammar.proofs.Common.{gfm_footnotes, indent, label_at, first_byte, begins_footnote_mark, head_after, footnote_head}
-use Rattle.first_pass_grammar.proofs.Common.{Document, place_length, columns_line_end, bytes_line_end, line_end_boundary, unindented, is_blank_rest}
-use Rattle.first_pass_grammar.proofs.Common.{place_past, past_head, footnote_at, footnote_head_at, Context}
+use Rattle.first_pass_grammar.proofs.Common.{gfm_footnotes, indent, label_at, first_byte, begins_footnote_mark, head_after, footnote_head, Document}
+use Rattle.first_pass_grammar.proofs.Common.{place_length, columns_line_end, bytes_line_end, line_end_boundary, unindented, is_blank_rest, place_past}
+use Rattle.first_pass_grammar.proofs.Common.{past_head, footnote_at, footnote_head_at, Context}
+use Rattle.first_pass_containers.proofs.Common.{all_keep, line_start_end}
 use Rattle.first_pass_lines.proofs.LineFacts.{line_len-none, line_len-inside, line_len-blank}
 use Rattle.first_pass_ready.proofs.FootnoteLemmas.{after_note}
-use Rattle.first_pass_open.proofs.PlaceLemmas.{all_keep, line_start_end}
 use Rattle.first_pass_containers.specs.FootnoteHeads.{head_read, blank_before_more, head_end, after_head, footnote_mark_at}
 use Rattle.first_pass_grammar.proofs.Order.RowEnds.{white_content}
 use Rattle.first_pass_lines.proofs.PlaceFacts.{last_of_line}

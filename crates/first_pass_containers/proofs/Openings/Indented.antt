@@ -1,26 +1,21 @@
 -- The markers of containers after the indentation of a line, and the container that begins there, from the results of the
 -- calls.
-use Rattle.std.proofs.Common.{◌≡◌, inl, ℕ, ◌&&◌, Bool, true, false, Some, None, refl, if◌then◌else◌, Option, MatchOption, IsSomeAnd, sym, ap, subst}
-use Rattle.std.proofs.Common.{◌∙◌, zero, suc, ◌≤◌, ◌<◌, ◌==◌, List, [], ◌∷◌, min, arith, option_map}
-use Rattle.first_pass_grammar.proofs.Common.{and-false, colon, left_bracket, Options, begins, is_plain, begins_plain, Rest, indent}
-use Rattle.first_pass_grammar.proofs.Common.{after_columns, column_of, column_of_byte, next_column, past_quote, past_quote_byte, Place}
-use Rattle.first_pass_grammar.proofs.Common.{begins_footnote_mark, definition_of, plain_begins, inert_indent, Context, prefix, at_rest}
-use Rattle.first_pass_grammar.proofs.Common.{footnote_head_at, all_taken, definition_marker_at, start_at, Start, definition_start, QuoteMarker}
-use Rattle.first_pass_grammar.proofs.Common.{ItemMarker, FootnoteMarker, DefinitionMarker, nat_tests, after-more, all_columns_up_to, Names, Tables, document}
+use Rattle.std.proofs.Common.{◌≡◌, inl, ℕ, ◌&&◌, Bool, true, false, Some, None, refl, if◌then◌else◌, Option, MatchOption, IsSomeAnd, sym, ap, subst, ◌∙◌, zero}
+use Rattle.std.proofs.Common.{suc, ◌≤◌, ◌<◌, ◌==◌, List, [], ◌∷◌, min, arith, option_map}
+use Rattle.first_pass_grammar.proofs.Common.{and-false, colon, left_bracket, Options, begins, is_plain, begins_plain, Rest, indent, after_columns, column_of}
+use Rattle.first_pass_grammar.proofs.Common.{column_of_byte, next_column, past_quote, past_quote_byte, Place, begins_footnote_mark, definition_of, plain_begins}
+use Rattle.first_pass_grammar.proofs.Common.{inert_indent, Context, prefix, at_rest, footnote_head_at, all_taken, definition_marker_at, start_at, Start}
+use Rattle.first_pass_grammar.proofs.Common.{definition_start, QuoteMarker, ItemMarker, FootnoteMarker, DefinitionMarker, nat_tests, after-more}
+use Rattle.first_pass_grammar.proofs.Common.{all_columns_up_to, Names, Tables, document}
+use Rattle.first_pass_containers.proofs.Common.{PassState, marker_where, start_none, start_quote, Source, BlockQuote, Opener, InLine, LeafAt, ReadsTo, ReadyOn}
 use Rattle.first_pass_scan.proofs.ColumnFacts.{no_column}
 use Rattle.first_pass_scan.proofs.PlainFacts.{begins_both}
 use Rattle.first_pass_grammar.specs.Kinds.{item_at}
-use Rattle.first_pass_grammar.proofs.Sequences.OpenerFacts.{marker_where, start_none, start_quote}
 use Rattle.first_pass_open.proofs.PlainLemmas.{inert_all, inert_item_at, inert_prefix}
-use Rattle.first_pass_open.specs.declared.source.Source.{Source}
-use Rattle.first_pass_lists.specs.declared.state.PassState.{PassState}
-use Rattle.first_pass_containers.specs.Positions.{InLine, LeafAt, ReadsTo, ReadyOn}
 use Rattle.first_pass_containers.specs.Starts.{BeginsNoContainer, marker_of, OpenerMatches, StartMatches, IsIndented}
 use Rattle.first_pass_containers.proofs.Openings.HeadLemmas.{no_mark}
-use Rattle.first_pass_grammar.specs.declared.kind.Container.TheVariants.{BlockQuote}
 use Rattle.first_pass_open.proofs.PlaceLemmas.{quote_taken as quote_is_taken}
 use Rattle.first_pass_containers.specs.declared.openers.Start.{Start as FoundStart}
-use Rattle.first_pass_containers.specs.declared.openers.Opener.{Opener}
 use Rattle.first_pass_containers.specs.declared.openers.Opener.TheVariants.{Quote, Item as ItemOpener, Definition as DefinitionOpener}
 use Rattle.first_pass_grammar.specs.Blocks.{Opener as ContainerOpener}
 use Rattle.first_pass_lines.proofs.Columns.{indent-some}

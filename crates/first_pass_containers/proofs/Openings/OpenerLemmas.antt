@@ -1,49 +1,32 @@
 -- A container is opened at a place in a line: a block quote, a list item in its list, or a definition; also one whose line
 -- ends after its markers.
-use Rattle.std.proofs.Common.{◌≡◌, ℕ, ◌+◌, Bool, true, false, List, ◌∷◌, ◌++◌, length, map, Option, Some, None, refl, sym, ap, subst, ◌∙◌, arith}
-use Rattle.std.proofs.Common.{if◌then◌else◌, length-append, suc, ◌||◌, slice_get, MatchOption, append_assoc, option_map, option_and_then, []}
+use Rattle.std.proofs.Common.{◌≡◌, ℕ, ◌+◌, Bool, true, false, List, ◌∷◌, ◌++◌, length, map, Option, Some, None, refl, sym, ap, subst, ◌∙◌, arith, if◌then◌else◌}
+use Rattle.std.proofs.Common.{length-append, suc, ◌||◌, slice_get, MatchOption, append_assoc, option_map, option_and_then, []}
 use Rattle.first_pass_grammar.proofs.Common.{Item, ItemBody, DefinitionListDefinition, DefinitionList, Options, TreeIndex, Forest, modify, with_body_at}
 use Rattle.first_pass_grammar.proofs.Common.{body_at, appended, modify-at, Rest, Place, offset, start_of, line_end, is_paragraph_body, at_rest, is_blank_rest}
 use Rattle.first_pass_grammar.proofs.Common.{Document, around, item_start, definition_head, definition_start, after_task, quote_begun, Start, start_at}
-use Rattle.first_pass_grammar.proofs.Common.{Continues, after_marker, only_task, next_is_blank, opening_of, OpensNode, Opens, Inside, AtPlace, TextOf}
-use Rattle.first_pass_grammar.proofs.Common.{Opening, may_define, after_tag, Tables, node_of, list_flags, OtherClosed, AreBelow, Closed, DefinitionClosed}
-use Rattle.first_pass_grammar.proofs.Common.{lines_from, Frame, InContainer, InList, containers_of, IsPlain, nat_tests, or-false, ListFlags, BlockQuoteKind}
-use Rattle.first_pass_grammar.proofs.Common.{body-other, footnote_head_at, is_task_marker, Blanks}
+use Rattle.first_pass_grammar.proofs.Common.{Continues, after_marker, only_task, next_is_blank, opening_of, OpensNode, Opens, Inside, AtPlace, TextOf, Opening}
+use Rattle.first_pass_grammar.proofs.Common.{may_define, after_tag, Tables, node_of, list_flags, OtherClosed, AreBelow, Closed, DefinitionClosed, lines_from}
+use Rattle.first_pass_grammar.proofs.Common.{Frame, InContainer, InList, containers_of, IsPlain, nat_tests, or-false, ListFlags, BlockQuoteKind, body-other}
+use Rattle.first_pass_grammar.proofs.Common.{footnote_head_at, is_task_marker, Blanks}
+use Rattle.first_pass_containers.proofs.Common.{path_in, path_of, container_of, with_container, PassState, Container, get_front, quote_start, item_opened}
+use Rattle.first_pass_containers.proofs.Common.{open_below, frame-append, get_end, open_path, HasFrame, ListItem, Definition, BlockQuote, path_below}
+use Rattle.first_pass_containers.proofs.Common.{CompletesAt, modify-append, item_head, quote_head, other_list, tail, lvl, opens_stays, completes-reflag_list}
+use Rattle.first_pass_containers.proofs.Common.{open_nodes, ready_as, Innermost, innermost_of, with_child, ReadyOn, ReadyTagged}
 use Rattle.first_pass_items.specs.declared.item.ItemBody.TheVariants.{ListItem as ListItemBody, BlockQuote as BlockQuoteBody, List as ListBody}
-use Rattle.first_pass_grammar.specs.declared.kind.Container.{Container}
-use Rattle.first_pass_grammar.specs.declared.kind.Container.TheVariants.{ListItem, Definition, BlockQuote}
-use Rattle.first_pass_grammar.specs.Kinds.{quote_start}
-use Rattle.first_pass_grammar.specs.Openers.{item_head, quote_head}
 use Rattle.first_pass_completion.proofs.Completions.{fresh, completes-mark}
-use Rattle.first_pass_completion.proofs.States.{open_nodes}
 use Rattle.first_pass_completion.proofs.TitleNodes.{reflagged}
-use Rattle.first_pass_grammar.proofs.Sequences.Finishes.{CompletesAt}
-use Rattle.first_pass_grammar.proofs.Sequences.Tightening.{modify-append}
-use Rattle.first_pass_open.specs.OpenBlock.{with_child}
-use Rattle.first_pass_open.specs.Path.{path_in, path_of, container_of, with_container}
-use Rattle.first_pass_grammar.proofs.Names.MoreNames.{get_front}
-use Rattle.first_pass_lists.specs.Closing.{top_body, is_list, may_begin_definition, list_continued, list_kept, with_tree, definitions_opened}
-use Rattle.first_pass_lists.specs.Closing.{definition_begun, loosened_at, is_list_of, empty_item_closed_by, empty_item_closed, list_finished, loosened_top}
-use Rattle.first_pass_lists.specs.Closing.{begun, state_with}
-use Rattle.first_pass_lists.specs.declared.state.PassState.{PassState}
-use Rattle.first_pass_ready.specs.State.{closed_in, item_columns, top_without_indent, ReadyAt, ReadyBeforeLine, ReadyEmpty, Ready}
-use Rattle.first_pass_ready.specs.State.{frame_at, frame_of, AreOpen}
+use Rattle.first_pass_lists.specs.Closing.{top_body, is_list, may_begin_definition, list_continued, list_kept, with_tree, definitions_opened, definition_begun}
+use Rattle.first_pass_lists.specs.Closing.{loosened_at, is_list_of, empty_item_closed_by, empty_item_closed, list_finished, loosened_top, begun, state_with}
+use Rattle.first_pass_ready.specs.State.{closed_in, item_columns, top_without_indent, ReadyAt, ReadyBeforeLine, ReadyEmpty, Ready, frame_at, frame_of, AreOpen}
 use Rattle.first_pass_ready.proofs.ClosedIn.{level_of, closed_at_body, no_paragraph, open_level, top_in}
 use Rattle.first_pass_ready.proofs.ItemBodies.{item_body, item_container, item_columns_of, item_kind, item_path, without_indent_is}
-use Rattle.first_pass_ready.proofs.OpenLemmas.{open_below, frame-append, get_end, open_path, HasFrame}
-use Rattle.first_pass_ready.proofs.PopLemmas.{ready_as, Innermost, innermost_of}
-use Rattle.first_pass_ready.proofs.EnterLemmas.{path_below}
 use Rattle.first_pass_containers.proofs.OrderSteps.{marked_open}
 use Rattle.first_pass_ready.proofs.BegunLemmas.{depth_of, with_open, top_opened, IsBegun, plain_open, opened_too, HasBegun, begun_ready, opens_start}
 use Rattle.first_pass_ready.proofs.DefinitionOpened.{definition_is_open}
-use Rattle.first_pass_lists.proofs.ListKinds.{other_list}
-use Rattle.first_pass_lists.proofs.NoEmptyItem.{item_opened}
 use Rattle.first_pass_lists.specs.declared.list.ListMarker.{ListMarker}
 use Rattle.first_pass_grammar.specs.OpenOrder.{is_in_item}
 use Rattle.first_pass_completion.proofs.ContainerSteps.{completes-quote, completes-list, completes-item}
-use Rattle.first_pass_completion.proofs.Extending.{tail, lvl, opens_stays}
-use Rattle.first_pass_completion.proofs.Flags.{completes-reflag_list}
-use Rattle.first_pass_containers.specs.Positions.{ReadyOn, ReadyTagged}
 use Rattle.first_pass_containers.specs.Starts.{marker_of, after_at, IsAfterMarker}
 use Rattle.first_pass_ready.proofs.FinishLemmas.{EndsListAt, Finished, MayBegin, OpensOther, ready_finished, loose_is, loose_frame, loosened_spine}
 

@@ -1,38 +1,29 @@
 -- A container that begins at a place is opened: the properties that this keeps.
 use Rattle.std.proofs.Common.{◌≡◌, inl, ℕ, ◌<◌, ◌≤◌, length, Bool, true, false, ◌&&◌, List, Option, Some, None, refl, sym, ap, subst, ◌∙◌, arith, IsUtf8}
 use Rattle.std.proofs.Common.{IsCharBoundary, if◌then◌else◌}
-use Rattle.first_pass_grammar.proofs.Common.{and_parts, cond_both, AreNamed, HasWholeTables, Item, BlockQuoteKind, DefinitionListDefinition, IsForest}
-use Rattle.first_pass_grammar.proofs.Common.{in_table, footnote_head_at, Tables, Rest, Place, place_at, offset, line_end, IsPlaceOf, start_of-lines, prefix}
-use Rattle.first_pass_grammar.proofs.Common.{at_rest, definition_marker_at, is_blank_rest, Document, document, around, has, definition_list, Start}
-use Rattle.first_pass_grammar.proofs.Common.{item_start, task_after, after_task, tag_after, quote_begun, definition_head, definition_start, start_at}
-use Rattle.first_pass_grammar.proofs.Common.{lines_from, Names, GrowsBy, item_on_top, Inside, CowIndex}
+use Rattle.first_pass_grammar.proofs.Common.{and_parts, cond_both, AreNamed, HasWholeTables, Item, BlockQuoteKind, DefinitionListDefinition, IsForest, in_table}
+use Rattle.first_pass_grammar.proofs.Common.{footnote_head_at, Tables, Rest, Place, place_at, offset, line_end, IsPlaceOf, start_of-lines, prefix, at_rest}
+use Rattle.first_pass_grammar.proofs.Common.{definition_marker_at, is_blank_rest, Document, document, around, has, definition_list, Start, item_start}
+use Rattle.first_pass_grammar.proofs.Common.{task_after, after_task, tag_after, quote_begun, definition_head, definition_start, start_at, lines_from, Names}
+use Rattle.first_pass_grammar.proofs.Common.{GrowsBy, item_on_top, Inside, CowIndex}
+use Rattle.first_pass_containers.proofs.Common.{path_of, context_of, PassState, item_at, quote_start, item_whole, quote_whole, child_whole, MarkerBetween}
+use Rattle.first_pass_containers.proofs.Common.{list_finished_none, list_continued_none, item_opened, footnote_begun_none, start_cases, Source, BlockQuote}
+use Rattle.first_pass_containers.proofs.Common.{Opener, quote_prefix_shorter, item_shorter, definition_shorter, IsReadTo, item_head, other_list, item_keeps}
+use Rattle.first_pass_containers.proofs.Common.{definition_keeps, markers_keep, mark_is_task, prefix_keeps, place_end, item_named, definition_named}
+use Rattle.first_pass_containers.proofs.Common.{quote_named, child_named, Position, InLine, LeafAt, IsInLine, OrderedUpTo, ReadsTo, OrderedIn, GrowsTo}
 use Rattle.first_pass_items.specs.declared.item.ItemBody.TheVariants.{BlockQuote as BlockQuoteBody, ListItem as ListItemBody}
 use Rattle.first_pass_items.specs.declared.item.ItemBody.TheVariants.{FootnoteDefinition as FootnoteDefinitionBody}
-use Rattle.first_pass_open.specs.Path.{path_of, context_of}
 use Rattle.first_pass_ready.proofs.BegunLemmas.{no_table}
-use Rattle.first_pass_grammar.specs.declared.kind.Container.TheVariants.{BlockQuote}
-use Rattle.first_pass_grammar.specs.Kinds.{item_at, quote_start}
 use Rattle.first_pass_grammar.specs.declared.kind.AfterMarker.TheVariants.{OnLine, LineEnds}
-use Rattle.first_pass_grammar.specs.Openers.{item_head}
-use Rattle.first_pass_grammar.proofs.Sequences.OpenerFacts.{start_cases}
-use Rattle.first_pass_open.specs.declared.source.Source.{Source}
-use Rattle.first_pass_grammar.proofs.Sequences.PlacesKept.{quote_prefix_shorter}
-use Rattle.first_pass_open.proofs.PlaceLemmas.{item_keeps, definition_keeps, markers_keep, mark_is_task, prefix_keeps, place_end}
-use Rattle.first_pass_grammar.proofs.Sequences.PlacesKept.{item_shorter, definition_shorter}
 use Rattle.first_pass_lists.specs.Closing.{top_body, may_begin_definition, with_tree, is_list, list_kept, loosened_top, begun, list_finished, list_continued}
 use Rattle.first_pass_lists.specs.Closing.{definitions_opened, definition_begun, is_list_of, is_after_definition, empty_item_closed, list_closed, gap_tree}
 use Rattle.first_pass_lists.specs.Closing.{gap_marked, footnote_left, footnote_begun}
-use Rattle.first_pass_lists.specs.declared.state.PassState.{PassState}
-use Rattle.first_pass_containers.specs.Positions.{Position, InLine, LeafAt, IsInLine, OrderedUpTo, ReadsTo, may_define, OrderedIn, GrowsTo}
-use Rattle.first_pass_order.specs.Ordered.{IsReadTo}
+use Rattle.first_pass_containers.specs.Positions.{may_define}
 use Rattle.first_pass_containers.proofs.Leaves.FirstItems.{mark_by}
 use Rattle.first_pass_containers.specs.Starts.{StartMatches, start_opened, after_at, after_read, IsAfterMarker, marker_of, container_opened, FinishesNothing}
 use Rattle.first_pass_containers.proofs.Openings.Indented.{start_told, start_is, may_if, leaf_there}
 use Rattle.first_pass_ready.specs.State.{ReadyAt}
-use Rattle.first_pass_lists.proofs.NoEmptyItem.{list_finished_none, list_continued_none, item_opened, footnote_begun_none}
 use Rattle.first_pass_order.proofs.FootnotesKept.{item_notes, definition_notes, quote_notes, child_notes}
-use Rattle.first_pass_order.proofs.NamedLemmas.{item_named, definition_named, quote_named, child_named}
-use Rattle.first_pass_order.proofs.WholeKept.{item_whole, quote_whole, child_whole}
 use Rattle.first_pass_order.proofs.DefinitionsWhole.{definition_whole}
 use Rattle.first_pass_order.proofs.CountLemmas.{item_count, definition_count, quote_count, child_count, offset_before, mark_shorter, left_before}
 use Rattle.first_pass_containers.proofs.OrderSteps.{noted, list_finished_blank, offset_later, upto_later, ordered_on, top_begun, ordered_item}
@@ -42,10 +33,7 @@ use Rattle.first_pass_ready.proofs.ClosedIn.{takes_same}
 use Rattle.first_pass_containers.proofs.Openings.OpenerLemmas.{ready_item, ready_definition, ready_quote, ready_tagged, after_opened, ready_after}
 use Rattle.first_pass_containers.proofs.Openings.OpenerLemmas.{ContainerBegins, empty_item_read, ready_empty_item, ready_empty_definition}
 use Rattle.first_pass_containers.specs.declared.openers.Start.{Start as FoundStart}
-use Rattle.first_pass_open.specs.Between.{MarkerBetween}
-use Rattle.first_pass_containers.specs.declared.openers.Opener.{Opener}
 use Rattle.first_pass_containers.specs.declared.openers.Opener.TheVariants.{Quote, Item as ItemOpener, Definition as DefinitionOpener}
-use Rattle.first_pass_lists.proofs.ListKinds.{other_list}
 
 -- no step
 pub reads_none : (source : Source) (line : ℕ) (r : PassState) (p : Position) → ReadsTo source line r r p p

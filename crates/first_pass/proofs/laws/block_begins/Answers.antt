@@ -1,6 +1,6 @@
 use Rattle.std.proofs.Common.{length, Some, None, refl, arith}
-use Rattle.first_pass_containers.proofs.OrderSteps.{top_begun}
-use Rattle.first_pass_order.proofs.WholeKept.{kept_of, opened_whole}
+use Rattle.first_pass.proofs.Common.{top_begun, opened_whole}
+use Rattle.first_pass_order.proofs.WholeKept.{kept_of}
 use Rattle.first_pass.proofs.BetweenCalls.{chain_begun, may_add_begun, item_begun, just_pushed}
 use Rattle.first_pass.proofs.MarkedText.{marked_may_add}
 use Rattle.first_pass.proofs.laws.block_begins.Goals as goal

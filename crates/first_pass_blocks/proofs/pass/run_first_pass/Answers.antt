@@ -1,18 +1,15 @@
 use Rattle.std.proofs.Common.{◌≡◌, ◌≤◌, inl, inr, ℕ, List, [], length, None, arith, refl, ap, ◌∙◌, subst}
 use Rattle.first_pass_grammar.proofs.Common.{IsCharBoundary-start, IsCharBoundary-end, lines_at-end, document, Options, Derives}
-use Rattle.first_pass_blocks.proofs.Common.{PassState, reached, IsReadTo, IsReadFrom, Ready, names_of, tables_in, tables_of, extends_equal}
+use Rattle.first_pass_blocks.proofs.Common.{PassState, reached, IsReadTo, IsReadFrom, Ready, names_of, tables_in, tables_of, extends_equal, Entries}
+use Rattle.first_pass_blocks.proofs.Common.{ordered_whole, own_at_most, ready_finish}
 use Rattle.first_pass_blocks.proofs.BlockRead.{block_more, lines_more, room_made}
-use Rattle.first_pass_names.specs.TableEntries.{Entries}
 use Rattle.first_pass_blocks.proofs.FootnoteLabels.{labels_stay}
 use Rattle.first_pass_blocks.proofs.LinkDefinitions.{none_written}
-use Rattle.first_pass_grammar.proofs.Count.CountedNodes.{own_at_most}
 use Rattle.first_pass_order.proofs.InsertedCells.{all_nodes}
 use Rattle.first_pass_grammar.proofs.Uniqueness.Unique.{only_derived}
 use Rattle.first_pass_grammar.proofs.WholeTables.WholeForests.{derived_whole}
 use Rattle.first_pass_order.proofs.SettledNodes.{derived_settled}
-use Rattle.first_pass_order.proofs.OrderLemmas.{ordered_whole}
 use Rattle.first_pass_open.proofs.FrontLemmas.{outer-none}
-use Rattle.first_pass_ready.proofs.StateLemmas.{ready_finish}
 use Rattle.first_pass_blocks.proofs.pass.run_first_pass.Goals.{After-drop-pass-2}
 use Rattle.first_pass_blocks.proofs.pass.run_first_pass.Goals as goal
 

@@ -1,5 +1,5 @@
 use Rattle.std.proofs.Common.{◌-◌, ◌≤◌, length}
-use Rattle.first_pass_blocks.specs.Progress.{KnowsNext}
+use Rattle.first_pass_blocks.proofs.Common.{KnowsNext}
 use Rattle.first_pass_blocks.proofs.BlockRead.{IsReadUpTo}
 use Rattle.first_pass_blocks.proofs.pass.run_first_pass.Given as goal
 

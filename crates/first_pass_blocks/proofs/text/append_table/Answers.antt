@@ -1,7 +1,6 @@
 use Rattle.std.proofs.Common.{◌+◌, IsCharBoundary, length, subst, sym, ◌∙◌}
 use Rattle.first_pass_grammar.proofs.Common.{Table, Names, Extends, NamesAlignments, document}
-use Rattle.first_pass_blocks.proofs.Common.{opened_block, names_of, extends_none, extends_both, extends_alignments, line_stops, AppendsRows}
-use Rattle.first_pass_names.proofs.NameLemmas.{alignments_last}
+use Rattle.first_pass_blocks.proofs.Common.{opened_block, names_of, extends_none, extends_both, extends_alignments, line_stops, AppendsRows, alignments_last}
 use Rattle.first_pass_open.proofs.PathLemmas.{open_are_in}
 use Rattle.first_pass_blocks.proofs.Leaves.TextsAre.{only_opened, body_at, table_text, table_between}
 use Rattle.first_pass_blocks.proofs.text.append_table.Goals as goal

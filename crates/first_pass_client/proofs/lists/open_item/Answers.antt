@@ -1,7 +1,5 @@
 use Rattle.std.proofs.Common.{refl, sym, subst, arith}
-use Rattle.first_pass_items.specs.declared.item.ItemBody.TheVariants.{ListItem}
-use Rattle.first_pass_lists.specs.declared.state.PassState.{PassState}
-use Rattle.first_pass.specs.Adding.{MayAddAt}
+use Rattle.first_pass_client.proofs.Common.{MayAddAt, PassState, ListItem}
 use Rattle.first_pass_client.proofs.lists.open_item.Goals as goal
 
 pub returns : goal.returns

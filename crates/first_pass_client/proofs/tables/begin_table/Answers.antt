@@ -1,10 +1,7 @@
 use Rattle.std.proofs.Common.{◌≡◌, Some, length, refl, sym, subst, arith}
-use Rattle.first_pass_items.specs.declared.item.ItemBody.TheVariants.{Table}
-use Rattle.first_pass_lists.specs.Closing.{top_body, with_block}
-use Rattle.first_pass_lists.specs.declared.state.PassState.{PassState}
+use Rattle.first_pass_client.proofs.Common.{MayAddAt, PassState, Table, top_body, with_block}
 use Rattle.first_pass_open.specs.OpenBlock.{IsJustPushed}
 use Rattle.first_pass_tables.specs.Appends.{IsOpenNode}
-use Rattle.first_pass.specs.Adding.{MayAddAt}
 use Rattle.first_pass_client.proofs.tables.begin_table.Goals as goal
 
 pub returns : goal.returns

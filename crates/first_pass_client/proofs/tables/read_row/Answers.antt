@@ -1,6 +1,5 @@
 use Rattle.std.proofs.Common.{◌≡◌, ℕ, List, IsCharBoundary, ap, subst, arith}
-use Rattle.first_pass.specs.Adding.{MayAddAt}
-use Rattle.first_pass.specs.Holds.{after_row}
+use Rattle.first_pass_client.proofs.Common.{MayAddAt, after_row}
 use Rattle.first_pass_client.proofs.Moves.{may_add_here, same_text}
 use Rattle.first_pass_client.proofs.tables.read_row.Goals as goal
 

@@ -1,10 +1,6 @@
 use Rattle.std.proofs.Common.{refl, sym, subst, arith}
-use Rattle.first_pass_items.specs.declared.item.ItemBody.TheVariants.{Paragraph}
-use Rattle.first_pass_lists.specs.Closing.{begun, with_block}
-use Rattle.first_pass_lists.specs.declared.state.PassState.{PassState}
+use Rattle.first_pass_client.proofs.Common.{MayAddAt, PassState, HoldsChain, Paragraph, begun, with_block}
 use Rattle.first_pass_tree.specs.declared.tree_index.TreeIndex.{TreeIndex}
-use Rattle.first_pass.specs.Adding.{MayAddAt}
-use Rattle.first_pass.specs.Holds.{HoldsChain}
 use Rattle.first_pass_client.proofs.texts.begin_text.Goals as goal
 
 pub returns : goal.returns

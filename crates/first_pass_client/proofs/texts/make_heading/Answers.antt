@@ -1,6 +1,6 @@
 use Rattle.std.proofs.Common.{◌≡◌, arith}
+use Rattle.first_pass_client.proofs.Common.{source_text}
 use Rattle.first_pass_open.specs.Between.{line_end_at}
-use Rattle.first_pass.specs.Views.{source_text}
 use Rattle.first_pass_client.proofs.Moves.{given, may_add}
 use Rattle.first_pass_client.proofs.texts.make_heading.Goals as goal
 

@@ -1,10 +1,5 @@
 use Rattle.std.proofs.Common.{◌≡◌, ℕ, List, true, IsCharBoundary, sym, subst, ◌∙◌, arith}
-use Rattle.first_pass_lists.specs.declared.state.PassState.{PassState}
-use Rattle.first_pass_tokens.specs.LineTokens.{is_break}
-use Rattle.first_pass_tree.specs.Forest.{appended}
-use Rattle.first_pass.specs.Adding.{MayAddAt}
-use Rattle.first_pass.specs.Holds.{HoldsChain}
-use Rattle.first_pass.specs.Views.{source_text, state_of, tree_of, with_tree}
+use Rattle.first_pass_client.proofs.Common.{MayAddAt, PassState, source_text, state_of, tree_of, with_tree, HoldsChain, is_break, appended}
 use Rattle.first_pass_client.proofs.Moves.{given, may_add_here, same_text}
 use Rattle.first_pass_client.proofs.texts.read_line.Goals as goal
 

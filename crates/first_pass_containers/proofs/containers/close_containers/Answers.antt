@@ -1,10 +1,8 @@
 use Rattle.std.proofs.Common.{◌≡◌, ℕ, suc, ◌-◌, ◌<◌, List, [], ◌∷◌, length, refl, sym, ap, subst, ◌∙◌, arith}
 use Rattle.first_pass_grammar.proofs.Common.{TreeIndex}
+use Rattle.first_pass_containers.proofs.Common.{PassState, popped_whole, closed_none, closed_one, popped_spine, KeepsState}
 use Rattle.first_pass_lists.specs.Closing.{popped}
-use Rattle.first_pass_lists.specs.declared.state.PassState.{PassState}
-use Rattle.first_pass_ready.proofs.StateLemmas.{closed_none, closed_one, popped_spine}
-use Rattle.first_pass_order.proofs.WholeKept.{popped_whole}
-use Rattle.first_pass_containers.specs.Entering.{all_popped, KeepsState}
+use Rattle.first_pass_containers.specs.Entering.{all_popped}
 use Rattle.first_pass_containers.proofs.OrderSteps.{state_kept, kept_both, popped_kept}
 use Rattle.first_pass_containers.proofs.containers.close_containers.Goals as goal
 

@@ -1,6 +1,5 @@
 use Rattle.std.proofs.Common.{◌≡◌, ◌-◌, length}
-use Rattle.first_pass_ready.proofs.StateLemmas.{ClosedSoFar}
-use Rattle.first_pass_containers.specs.Entering.{all_popped, KeepsState}
+use Rattle.first_pass_containers.proofs.Common.{ClosedSoFar, all_popped, KeepsState}
 use Rattle.first_pass_containers.proofs.containers.close_containers.Given as goal
 
 -- the others are not yet closed

@@ -1,23 +1,14 @@
 use Rattle.std.proofs.Common.{◌≡◌, inl, ℕ, ◌+◌, Bool, true, false, drop, Option, Some, None, if◌then◌else◌, is_some, IsUtf8, refl, sym, ap, subst, ◌∙◌, arith}
 use Rattle.std.proofs.Common.{inr}
 use Rattle.first_pass_grammar.proofs.Common.{blank_len, line_len, Rest, Place, place_at, Document, document, Names, Tables, Options, in_old_footnote}
-use Rattle.first_pass_open.proofs.FrontLemmas.{front_is}
+use Rattle.first_pass_containers.proofs.Common.{path_of, PassState, blank_whole, empty_item_closed_whole, popped_plain_whole, finished_none, IsReadTo, front_is}
+use Rattle.first_pass_containers.proofs.Common.{blank_named, empty_item_closed_named, place_entered, KeepsState, OrderedUpTo, ended_as, in_old}
 use Rattle.first_pass_lists.specs.Closing.{footnote_ended}
-use Rattle.first_pass_lists.specs.declared.state.PassState.{PassState}
-use Rattle.first_pass_order.specs.Ordered.{IsReadTo}
-use Rattle.first_pass_containers.specs.Entering.{place_entered, KeepsState}
-use Rattle.first_pass_containers.specs.Positions.{OrderedUpTo}
 use Rattle.first_pass_order.specs.Footnotes.{footnotes_in}
 use Rattle.first_pass_order.proofs.FootnotesKept.{blank_notes, empty_item_closed_notes}
-use Rattle.first_pass_order.proofs.NamedLemmas.{blank_named, empty_item_closed_named}
-use Rattle.first_pass_order.proofs.WholeKept.{blank_whole, empty_item_closed_whole, popped_plain_whole}
 use Rattle.first_pass_order.proofs.CountLemmas.{count, empty_item_closed_count, blank_count}
-use Rattle.first_pass_containers.proofs.OrderSteps.{entered_whole, ordered_blank_line, ordered_other_line, state_kept, kept_both, popped_kept}
-use Rattle.first_pass_containers.proofs.OrderSteps.{ordered_at_place}
+use Rattle.first_pass_containers.proofs.OrderSteps.{entered_whole, ordered_blank_line, ordered_other_line, state_kept, kept_both, popped_kept, ordered_at_place}
 use Rattle.first_pass_ready.proofs.LineLemmas.{IsSettled, settled, at_line, blank_line_read, line_entered, line_kept}
-use Rattle.first_pass_lists.proofs.NoEmptyItem.{finished_none}
-use Rattle.first_pass_open.specs.Path.{path_of}
-use Rattle.first_pass_ready.proofs.OldFootnotes.{ended_as, in_old}
 use Rattle.first_pass_order.proofs.Nests.{note_untitled}
 use Rattle.first_pass_containers.proofs.containers.enter_front.Goals.{After-is_some}
 use Rattle.first_pass_containers.proofs.containers.enter_front.Goals as goal

@@ -1,7 +1,6 @@
 use Rattle.std.proofs.Common.{◌≡◌, ◌+◌, Bool, true, false, not, ◌&&◌, drop, is_some, IsCharBoundary, sym, ap, subst, ◌∙◌, arith}
 use Rattle.first_pass_grammar.proofs.Common.{and-false, blank_len, line_len, line_end_boundary}
-use Rattle.first_pass_containers.specs.Positions.{LineAt, ReadsTo}
-use Rattle.first_pass_ready.proofs.OldFootnotes.{ends_here}
+use Rattle.first_pass_containers.proofs.Common.{LineAt, ReadsTo, ends_here}
 use Rattle.first_pass_containers.proofs.OrderSteps.{one_read}
 use Rattle.first_pass_containers.proofs.containers.read_blank_lines.Goals.{else-is_in_footnote-via-else-is_in_footnote}
 use Rattle.first_pass_containers.proofs.containers.read_blank_lines.Goals.{else-is_in_footnote-via-then-is_in_footnote+else-not-has_gfm_footnotes}

@@ -1,5 +1,5 @@
 use Rattle.std.proofs.Common.{◌≤◌, ◌-◌, length, IsCharBoundary}
-use Rattle.first_pass_containers.specs.Positions.{LineAt, ReadsTo}
+use Rattle.first_pass_containers.proofs.Common.{LineAt, ReadsTo}
 use Rattle.first_pass_containers.proofs.containers.read_blank_lines.Given as goal
 
 -- the lines are read up to here

@@ -1,6 +1,6 @@
 use Rattle.std.proofs.Common.{refl, sym, subst, ◌∙◌, arith, IsCharBoundary}
 use Rattle.first_pass_grammar.proofs.Common.{all_taken}
-use Rattle.first_pass_open.proofs.PlaceLemmas.{all_keep, read_to}
+use Rattle.first_pass_containers.proofs.Common.{all_keep, read_to}
 use Rattle.first_pass_containers.proofs.footnote_place.footnote_mark.Goals as goal
 
 pub offset-requires : goal.offset-requires

@@ -1,5 +1,5 @@
 use Rattle.std.proofs.Common.{arith}
-use Rattle.first_pass_open.proofs.PlaceLemmas.{task_keeps, task_found}
+use Rattle.first_pass_containers.proofs.Common.{task_keeps, task_found}
 use Rattle.first_pass_containers.proofs.openers.scan_task.Goals as goal
 
 pub offset-requires : goal.offset-requires

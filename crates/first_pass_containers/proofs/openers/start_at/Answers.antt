@@ -1,8 +1,6 @@
 use Rattle.std.proofs.Common.{◌≡◌, Some, None, refl, sym, ap, ◌∙◌, arith}
 use Rattle.first_pass_grammar.proofs.Common.{Place, place_at, offset}
-use Rattle.first_pass_grammar.specs.Kinds.{item_at}
-use Rattle.first_pass_grammar.proofs.Sequences.OpenerFacts.{marker_where, start_item, start_definition, start_quote, start_none}
-use Rattle.first_pass_open.proofs.PlaceLemmas.{item_keeps, quote_absent}
+use Rattle.first_pass_containers.proofs.Common.{item_at, marker_where, start_item, start_definition, start_quote, start_none, item_keeps, quote_absent}
 use Rattle.first_pass_containers.proofs.Openings.Indented.{no_item, no_definition, no_quote_prefix, is_far, is_indented, definition_found, marker_absent}
 use Rattle.first_pass_containers.proofs.Openings.Indented.{quote_here}
 use Rattle.first_pass_containers.proofs.Openings.OpenerLemmas.{item_found}

@@ -1,7 +1,6 @@
 use Rattle.std.proofs.Common.{◌≡◌, ℕ, min, nat_lt, ◌&&◌, ◌||◌, not, Bool, true, false, List, is_some, refl, ap, ◌∙◌, arith, if◌then◌else◌}
 use Rattle.first_pass_grammar.proofs.Common.{nat_tests, on_err, at_line_end, Rest, indent, setext_underline, Continued, all_taken, interrupts, Context}
-use Rattle.first_pass_grammar.specs.Kinds.{interrupts_in}
-use Rattle.first_pass_open.specs.Path.{context_of, continued_to}
+use Rattle.first_pass_kinds.proofs.Common.{interrupts_in, context_of, continued_to}
 use Rattle.first_pass_grammar.specs.Definitions.{is_underline}
 use Rattle.first_pass_kinds.proofs.interrupt.scan_definition_end.Goals as goal
 

@@ -1,8 +1,6 @@
 use Rattle.std.proofs.Common.{sym, ap, subst, drop, is_some, ◌∙◌, ◌+◌, IsUtf8}
 use Rattle.first_pass_grammar.proofs.Common.{at_line_end, begins_plain}
-use Rattle.first_pass_open.specs.Path.{path_of, context_of}
-use Rattle.first_pass_open.proofs.PlaceLemmas.{text_place}
-use Rattle.first_pass_kinds.specs.declared.interrupt.NextLine.TheVariants.{More}
+use Rattle.first_pass_kinds.proofs.Common.{More, text_place, path_of, context_of}
 use Rattle.first_pass_kinds.proofs.PlainLines.{plain_more}
 use Rattle.first_pass_kinds.proofs.FirstBytes.{plain_first, eol_first}
 use Rattle.first_pass_kinds.proofs.interrupt.scan_next_line.Goals as goal

@@ -1,7 +1,6 @@
 use Rattle.std.proofs.Common.{min, ap, ◌∙◌}
 use Rattle.first_pass_grammar.proofs.Common.{indent, all_taken}
-use Rattle.first_pass_open.specs.Path.{path_of}
-use Rattle.first_pass_open.proofs.PlaceLemmas.{text_place}
+use Rattle.first_pass_kinds.proofs.Common.{text_place, path_of}
 use Rattle.first_pass_kinds.proofs.interrupt.scan_unindented.Goals as goal
 
 pub returns-clause-columns : goal.returns-clause-columns

@@ -1,13 +1,11 @@
 use Rattle.std.proofs.Common.{inr, ◌≡◌, ◌+◌, ◌-◌, ◌≤◌, ℕ, arith, List, length, sym, ap, ◌∙◌, if◌then◌else◌, slice_range}
-use Rattle.first_pass_grammar.proofs.Common.{Item, Forest, cut_siblings, chained, before_attributes, heading_attributes_of, chain_bytes}
-use Rattle.first_pass_grammar.proofs.Common.{kept_before, Names, Extends, NamesAttributes}
-use Rattle.first_pass_tokens.proofs.ChainLemmas.{cut_siblings-chained}
-use Rattle.first_pass_names.specs.TableEntries.{names_of}
+use Rattle.first_pass_grammar.proofs.Common.{Item, Forest, cut_siblings, chained, before_attributes, heading_attributes_of, chain_bytes, kept_before, Names}
+use Rattle.first_pass_grammar.proofs.Common.{Extends, NamesAttributes}
+use Rattle.first_pass_leaves.proofs.Common.{names_of, cut_siblings-chained, IsLastAndChildless}
 use Rattle.first_pass_leaves.proofs.AttributeEnds.{clipped, cut_end, block_named, none_named, cut_by, cut_none, siblings_fewer}
 use Rattle.first_pass_leaves.proofs.OrderPlain.{kept_place}
 use Rattle.first_pass_grammar.proofs.Names.MoreNames.{extends_none}
 use Rattle.first_pass_grammar.proofs.Names.TextsNamed.{given_entry}
-use Rattle.first_pass_leaves.specs.CutTexts.{IsLastAndChildless}
 use Rattle.first_pass_leaves.proofs.attributes.cut_attributes.Goals as goal
 use Rattle.first_pass_leaves.proofs.attributes.cut_attributes.Goals.{After-is_some}
 

@@ -1,6 +1,6 @@
 use Rattle.std.proofs.Common.{◌≤◌, sym, ap, ◌∙◌, subst, length, arith}
 use Rattle.first_pass_grammar.proofs.Common.{Item, Heading, Forest, length-modify}
-use Rattle.first_pass_open.proofs.BlockLemmas.{open_node_in}
+use Rattle.first_pass_leaves.proofs.Common.{open_node_in}
 use Rattle.first_pass_leaves.proofs.attributes.make_heading.Goals as goal
 
 pub index-requires : goal.index-requires

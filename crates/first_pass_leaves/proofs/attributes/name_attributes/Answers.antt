@@ -1,9 +1,9 @@
 use Rattle.std.proofs.Common.{Some, sym, subst, ◌∙◌, refl}
 use Rattle.first_pass_grammar.proofs.Common.{attributes_of, NamesAttributes}
+use Rattle.first_pass_leaves.proofs.Common.{names_of}
 use Rattle.first_pass_attributes.specs.Attributes.{attributes_in}
 use Rattle.first_pass_attributes.proofs.AttributeFacts.{from_none}
 use Rattle.first_pass_grammar.proofs.Names.MoreNames.{extends_none, extends_heading, heading_last}
-use Rattle.first_pass_names.specs.TableEntries.{names_of}
 use Rattle.first_pass_leaves.proofs.attributes.name_attributes.Goals as goal
 
 pub returns-in_default-clause-more : goal.returns-in_default-clause-more

@@ -1,5 +1,5 @@
 use Rattle.std.proofs.Common.{arith}
-use Rattle.first_pass_open.proofs.PathLemmas.{open_are_in}
+use Rattle.first_pass_leaves.proofs.Common.{open_are_in}
 use Rattle.first_pass_leaves.proofs.WholeLines.{only_open, code_path}
 use Rattle.first_pass_leaves.proofs.extent.is_outermost_code.Goals as goal
 

@@ -1,10 +1,7 @@
 use Rattle.std.proofs.Common.{IsUtf8, refl, sym, ap, subst, ◌∙◌, arith}
 use Rattle.first_pass_grammar.proofs.Common.{place_at, document}
-use Rattle.first_pass_open.specs.Path.{path_of}
-use Rattle.first_pass_names.specs.TableEntries.{names_of}
-use Rattle.first_pass_open.proofs.PathLemmas.{open_are_in}
+use Rattle.first_pass_leaves.proofs.Common.{path_of, open_are_in, names_of, range_of, AppendsRaw}
 use Rattle.first_pass_names.proofs.NameLemmas.{extends_none, extends_both}
-use Rattle.first_pass_leaves.specs.RawBlocks.{range_of, AppendsRaw}
 use Rattle.first_pass_leaves.proofs.ExtentLemmas.{ReadSoFar, LineAppended, LineJudged, IsLineAt, line_read, after_path, goes_by, lines_end, extent_at_end}
 use Rattle.first_pass_leaves.proofs.ExtentLemmas.{read_left, read_stops, read_closes, read_last, read_more, lines_quotes}
 use Rattle.first_pass_leaves.proofs.WholeLines.{whole_start}

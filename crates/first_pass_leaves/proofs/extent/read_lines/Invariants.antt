@@ -1,7 +1,6 @@
 use Rattle.std.proofs.Common.{◌≡◌, ◌≤◌, ◌-◌, length, IsCharBoundary}
 use Rattle.first_pass_grammar.proofs.Common.{document, Extends}
-use Rattle.first_pass_names.specs.TableEntries.{entries, names_of}
-use Rattle.first_pass_leaves.specs.RawBlocks.{range_of}
+use Rattle.first_pass_leaves.proofs.Common.{entries, names_of, range_of}
 use Rattle.first_pass_leaves.proofs.ExtentLemmas.{ReadSoFar}
 use Rattle.first_pass_leaves.proofs.extent.read_lines.Given as goal
 

@@ -1,7 +1,6 @@
 use Rattle.std.proofs.Common.{refl, subst, arith}
 use Rattle.first_pass_grammar.proofs.Common.{FencedCodeBlock, NamesInfo, fence_judge, document, range_text}
-use Rattle.first_pass_names.specs.TableEntries.{names_of}
-use Rattle.first_pass_open.proofs.PathLemmas.{open_are_in}
+use Rattle.first_pass_leaves.proofs.Common.{open_are_in, names_of}
 use Rattle.first_pass_names.proofs.NameLemmas.{extends_both, info_named}
 use Rattle.first_pass_leaves.proofs.ExtentLemmas.{OpenedAt, first_read, lines_of, block_open}
 use Rattle.first_pass_leaves.proofs.FencedLemmas.{fence_end, fenced_added}

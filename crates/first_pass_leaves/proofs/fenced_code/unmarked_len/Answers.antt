@@ -1,10 +1,7 @@
 use Rattle.std.proofs.Common.{sym, ap, arith, inl, inr}
+use Rattle.first_pass_leaves.proofs.Common.{is_unmarked, take_rest, after_passed, prefix_len_is}
 use Rattle.std.proofs.lemmas.Bool.{cases_lt}
-use Rattle.std.proofs.lemmas.List.{take_rest}
-use Rattle.std.proofs.lemmas.List.Sums.{prefix_len_is}
 use Rattle.std.specs.List.{prefix_len}
-use Rattle.first_pass_lines.proofs.LaneLemmas.{after_passed}
-use Rattle.first_pass_leaves.specs.RawBlocks.{is_unmarked}
 use Rattle.first_pass_leaves.proofs.fenced_code.unmarked_len.Goals as goal
 
 pub returns-then-run-lt-LANES-clause-value : goal.returns-then-run-lt-LANES-clause-value

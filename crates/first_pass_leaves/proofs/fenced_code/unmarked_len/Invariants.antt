@@ -1,5 +1,5 @@
 use Rattle.std.proofs.Common.{◌≡◌, ℕ, ◌<◌, ◌≤◌, ◌-◌, get_or, length, true}
-use Rattle.first_pass_leaves.specs.RawBlocks.{is_unmarked}
+use Rattle.first_pass_leaves.proofs.Common.{is_unmarked}
 use Rattle.first_pass_leaves.proofs.fenced_code.unmarked_len.Given as goal
 
 abbrev pub invariant-loop-from : goal.invariant-loop-from

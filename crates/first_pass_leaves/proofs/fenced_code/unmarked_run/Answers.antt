@@ -1,11 +1,8 @@
 use Rattle.std.proofs.Common.{◌≡◌, ℕ, zero, suc, ◌||◌, ◌==◌, Bool, true, false, not, if◌then◌else◌, bit_or, refl, arith}
-use Rattle.std.proofs.lemmas.Bool.{agree_below}
+use Rattle.first_pass_leaves.proofs.Common.{is_unmarked, agree_below, beq, joined, run_in}
 use Rattle.std.proofs.lemmas.Simd.{zip2_splat, length-chunk}
-use Rattle.std.specs.Bool.{beq}
 use lib.Lanes.{chunk, top}
 use Rattle.first_pass_items.specs.Bytes.{carriage_return}
-use Rattle.first_pass_lines.proofs.LaneLemmas.{joined, run_in}
-use Rattle.first_pass_leaves.specs.RawBlocks.{is_unmarked}
 use Rattle.first_pass_leaves.proofs.fenced_code.unmarked_run.Goals as goal
 
 -- two tests that agree at each number

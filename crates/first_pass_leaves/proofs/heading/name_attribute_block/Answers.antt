@@ -1,9 +1,7 @@
 use Rattle.std.proofs.Common.{◌≡◌, ◌+◌, ℕ, List, not, length, None, refl, sym, ap, subst, ◌∙◌}
 use Rattle.first_pass_grammar.proofs.Common.{before_attributes, heading_attributes_of, NamesAttributes}
+use Rattle.first_pass_leaves.proofs.Common.{names_of, line_end_at, line_from}
 use Rattle.first_pass_grammar.proofs.Names.MoreNames.{extends_none}
-use Rattle.first_pass_names.specs.TableEntries.{names_of}
-use Rattle.first_pass_open.specs.Between.{line_end_at}
-use Rattle.first_pass_leaves.specs.Appends.{line_from}
 use Rattle.first_pass_leaves.proofs.AttributeEnds.{no_braces, given_none, block_named, none_named}
 use Rattle.first_pass_leaves.proofs.HeadingLemmas.{line_between, place_none, place_some}
 use Rattle.first_pass_leaves.proofs.heading.name_attribute_block.Goals as goal

@@ -1,11 +1,9 @@
 use Rattle.std.proofs.Common.{◌≡◌, ◌≤◌, ℕ, List, length, IfSome, IsUtf8, ap, subst, ◌∙◌, arith}
 use Rattle.first_pass_grammar.proofs.Common.{IsHeading, text_upto, Item, Heading, added, block_of, chained, document}
-use Rattle.first_pass_names.specs.TableEntries.{names_of}
+use Rattle.first_pass_leaves.proofs.Common.{names_of, line_end_at, opened_is, just_pushed, still_open, block_closed}
 use Rattle.first_pass_grammar.proofs.Names.MoreNames.{extends_both}
-use Rattle.first_pass_open.specs.Between.{line_end_at}
 use Rattle.first_pass_leaves.proofs.OrderHeading.{heading_fits}
 use Rattle.first_pass_leaves.proofs.HeadingLemmas.{heading_read, heading_line_end, place_cut, place_end, place_fits}
-use Rattle.first_pass_open.proofs.BlockLemmas.{opened_is, just_pushed, still_open, block_closed}
 use Rattle.first_pass_leaves.proofs.PlainHeadings.{plain_read}
 use Rattle.first_pass_leaves.proofs.heading.parse_atx_heading.Goals as goal
 use Rattle.first_pass_leaves.proofs.heading.parse_atx_heading.Goals.{After-opening_of}

@@ -1,9 +1,6 @@
 use Rattle.std.proofs.Common.{◌≡◌, IsCharBoundary, arith}
 use Rattle.first_pass_grammar.proofs.Common.{HtmlBlock, Options, range_html}
-use Rattle.first_pass_open.specs.OpenBlock.{opened_block}
-use Rattle.first_pass_open.proofs.PathLemmas.{open_are_in}
-use Rattle.first_pass_names.specs.TableEntries.{names_of}
-use Rattle.first_pass_leaves.specs.RawBlocks.{AppendsRaw, after_line_at}
+use Rattle.first_pass_leaves.proofs.Common.{opened_block, open_are_in, names_of, AppendsRaw, after_line_at}
 use Rattle.first_pass_leaves.proofs.ExtentLemmas.{first_read}
 use Rattle.first_pass_leaves.proofs.HtmlLemmas.{first_apart, first_path}
 use Rattle.first_pass_leaves.proofs.html_block.open_html_block.Goals as goal

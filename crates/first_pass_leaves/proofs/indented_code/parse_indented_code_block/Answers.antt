@@ -1,12 +1,9 @@
 use Rattle.std.proofs.Common.{◌≡◌, ◌<◌, ◌≤◌, false, is_some, IsCharBoundary, ◌+◌, refl, ap, sym, subst, ◌∙◌, arith}
 use Rattle.first_pass_grammar.proofs.Common.{Item, IndentCodeBlock, Forest, IsForest, blank_len, joins_none-fresh, document, range_text}
-use Rattle.first_pass_open.specs.OpenBlock.{opened_block}
-use Rattle.first_pass_open.specs.Path.{path_of, has_quote_after}
-use Rattle.first_pass_names.specs.TableEntries.{names_of}
+use Rattle.first_pass_leaves.proofs.Common.{path_of, has_quote_after, opened_block, names_of, AppendsRaw, after_line_at}
 use Rattle.first_pass_names.proofs.NameLemmas.{extends_none, extends_both}
-use Rattle.first_pass_leaves.specs.RawBlocks.{AppendsRaw, after_line_at}
-use Rattle.first_pass_leaves.proofs.IndentedLemmas.{ContinuesCode, place_line_end, next_end, first_at, first_is, so_far_first, so_far_next}
-use Rattle.first_pass_leaves.proofs.IndentedLemmas.{kept_child, next_read, next_rest, next_quotes, code_open, code_added}
+use Rattle.first_pass_leaves.proofs.IndentedLemmas.{ContinuesCode, place_line_end, next_end, first_at, first_is, so_far_first, so_far_next, kept_child}
+use Rattle.first_pass_leaves.proofs.IndentedLemmas.{next_read, next_rest, next_quotes, code_open, code_added}
 use Rattle.first_pass_leaves.proofs.ExtentLemmas.{first_read}
 use Rattle.first_pass_leaves.proofs.indented_code.parse_indented_code_block.Goals as goal
 use Rattle.first_pass_leaves.proofs.indented_code.parse_indented_code_block.Goals.{In_ok-next-2}

@@ -1,8 +1,6 @@
 use Rattle.std.proofs.Common.{◌≡◌, ◌-◌, ◌≤◌, length, IsCharBoundary}
 use Rattle.first_pass_grammar.proofs.Common.{IndentCodeBlock, Place, document, Extends}
-use Rattle.first_pass_open.specs.OpenBlock.{opened_block}
-use Rattle.first_pass_names.specs.TableEntries.{entries, names_of}
-use Rattle.first_pass_leaves.specs.RawBlocks.{IsPlaceAt, after_line_at}
+use Rattle.first_pass_leaves.proofs.Common.{opened_block, entries, names_of, IsPlaceAt, after_line_at}
 use Rattle.first_pass_leaves.proofs.IndentedLemmas.{IndentedSoFar}
 use Rattle.first_pass_leaves.proofs.indented_code.parse_indented_code_block.Given as goal
 

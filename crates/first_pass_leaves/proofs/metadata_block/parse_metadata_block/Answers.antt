@@ -1,7 +1,6 @@
 use Rattle.std.proofs.Common.{refl, arith}
 use Rattle.first_pass_grammar.proofs.Common.{MetadataBlock, document, range_text, metadata_judge}
-use Rattle.first_pass_names.specs.TableEntries.{names_of}
-use Rattle.first_pass_open.proofs.PathLemmas.{open_are_in}
+use Rattle.first_pass_leaves.proofs.Common.{open_are_in, names_of}
 use Rattle.first_pass_leaves.proofs.ExtentLemmas.{OpenedAt, first_read, lines_of, block_open}
 use Rattle.first_pass_leaves.proofs.MetadataLemmas.{metadata_added}
 use Rattle.first_pass_leaves.proofs.metadata_block.parse_metadata_block.Goals as goal

@@ -1,11 +1,8 @@
 use Rattle.std.proofs.Common.{◌≡◌, ℕ, Option, ap, ◌<◌, ◌≤◌, length, refl, ◌∙◌, arith}
 use Rattle.first_pass_grammar.proofs.Common.{spot, Item, HeadingLevel, Forest, Document, document}
-use Rattle.first_pass_names.specs.TableEntries.{no_names, names_of}
+use Rattle.first_pass_leaves.proofs.Common.{with_child, open_are_in, no_names, names_of, TextEnd}
 use Rattle.first_pass_grammar.proofs.Names.MoreNames.{extends_none, extends_both}
-use Rattle.first_pass_open.specs.OpenBlock.{with_child}
 use Rattle.first_pass_leaves.specs.Appends.{AppendsLines}
-use Rattle.first_pass_leaves.specs.declared.paragraph.TextEnd.{TextEnd}
-use Rattle.first_pass_open.proofs.PathLemmas.{open_are_in}
 use Rattle.first_pass_leaves.proofs.ParagraphLemmas.{LineRead, next_boundary, so_far_start, so_far_next, so_far_stop, stops_by, underlined_by}
 use Rattle.first_pass_leaves.proofs.paragraph.append_text_lines.Goals as goal
 use Rattle.first_pass_leaves.proofs.paragraph.append_text_lines.Goals.{In_ok-at}

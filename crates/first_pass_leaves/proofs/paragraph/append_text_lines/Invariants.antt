@@ -1,6 +1,6 @@
 use Rattle.std.proofs.Common.{◌≡◌, ◌-◌, length}
 use Rattle.first_pass_grammar.proofs.Common.{Extends, spot, document}
-use Rattle.first_pass_names.specs.TableEntries.{entries, names_of}
+use Rattle.first_pass_leaves.proofs.Common.{entries, names_of}
 use Rattle.first_pass_leaves.proofs.SoFar.{LinesSoFar}
 use Rattle.first_pass_leaves.proofs.paragraph.append_text_lines.Given as goal
 

@@ -1,18 +1,12 @@
 use Rattle.std.proofs.Common.{◌≡◌, refl, sym, ap, subst, ◌∙◌}
 use Rattle.first_pass_grammar.proofs.Common.{Item, appended, pushed}
-use Rattle.first_pass_open.specs.OpenBlock.{with_child}
-use Rattle.first_pass_open.specs.Path.{path_of}
-use Rattle.first_pass_open.proofs.BlockLemmas.{marked_chain, opened_is}
-use Rattle.first_pass_open.proofs.PathLemmas.{open_are_in}
+use Rattle.first_pass_leaves.proofs.Common.{path_of, with_child, open_are_in, names_of, marked_chain, opened_is, container_is, IsFrontAt}
 use Rattle.first_pass_leaves.proofs.ParagraphLemmas.{path_of-paragraph}
-use Rattle.first_pass_names.specs.TableEntries.{names_of}
 use Rattle.first_pass_grammar.proofs.Names.MoreNames.{extends_both}
 use Rattle.first_pass_leaves.proofs.OrderPlain.{plain_fits}
 use Rattle.first_pass_leaves.proofs.PlainTexts.{StandsOpen, whole_chain, opened_item, innermost, its_item, text_open, closed_paragraph, heading_open}
 use Rattle.first_pass_leaves.proofs.PlainTexts.{closed_heading}
 use Rattle.first_pass_kinds.specs.declared.next_front.NextFront.{NextFront}
-use Rattle.first_pass_kinds.specs.Fronts.{IsFrontAt}
-use Rattle.first_pass_open.proofs.FrontLemmas.{container_is}
 use Rattle.first_pass_leaves.proofs.ClosedFronts.{closed_front}
 use Rattle.first_pass_leaves.proofs.paragraph.parse_paragraph.Goals as goal
 use Rattle.first_pass_leaves.proofs.paragraph.parse_paragraph.Goals.{In_ok-end}

@@ -1,6 +1,6 @@
 use Rattle.std.proofs.Common.{◌∷◌, [], refl, ◌∙◌}
 use Rattle.first_pass_grammar.proofs.Common.{Borrowed}
-use Rattle.first_pass_names.specs.TableEntries.{names_of}
+use Rattle.first_pass_leaves.proofs.Common.{names_of}
 use Rattle.first_pass_names.proofs.NameLemmas.{extends_none, extends_named, text_last}
 use Rattle.first_pass_leaves.proofs.RawLineLemmas.{spaces_taken, columns_item, some_columns}
 use Rattle.first_pass_leaves.proofs.raw_line.append_columns.Goals as goal

@@ -1,8 +1,6 @@
 use Rattle.std.proofs.Common.{ℕ, bit_or, refl, arith}
-use Rattle.std.proofs.lemmas.Simd.{zip2_splat, length-chunk}
+use Rattle.first_pass_lines.proofs.Common.{zip2_splat, length-chunk, line_feed, carriage_return, is_content}
 use lib.Lanes.{chunk}
-use Rattle.first_pass_items.specs.Bytes.{line_feed, carriage_return}
-use Rattle.first_pass_lines.specs.Lines.{is_content}
 use Rattle.first_pass_lines.proofs.LaneLemmas.{joined, run_in}
 use Rattle.first_pass_lines.proofs.lanes.content_run.Goals as goal
 

@@ -1,7 +1,6 @@
 use Rattle.std.proofs.Common.{refl, arith}
-use Rattle.std.proofs.lemmas.Simd.{zip2_splat, length-chunk}
+use Rattle.first_pass_lines.proofs.Common.{zip2_splat, length-chunk, space}
 use lib.Lanes.{chunk}
-use Rattle.first_pass_items.specs.Bytes.{space}
 use Rattle.first_pass_lines.specs.Lanes.{is_space}
 use Rattle.first_pass_lines.proofs.LaneLemmas.{run_in}
 use Rattle.first_pass_lines.proofs.lanes.space_run.Goals as goal

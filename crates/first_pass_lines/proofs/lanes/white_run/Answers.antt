@@ -1,8 +1,6 @@
 use Rattle.std.proofs.Common.{ℕ, bit_and, refl, arith}
-use Rattle.std.proofs.lemmas.Simd.{zip2_splat, length-chunk}
+use Rattle.first_pass_lines.proofs.Common.{zip2_splat, length-chunk, tab, line_tabulation, form_feed, space, is_white}
 use lib.Lanes.{chunk}
-use Rattle.first_pass_items.specs.Bytes.{tab, line_tabulation, form_feed, space}
-use Rattle.first_pass_lines.specs.Lines.{is_white}
 use Rattle.first_pass_lines.proofs.LaneLemmas.{joined, run_in}
 use Rattle.first_pass_lines.proofs.lanes.white_run.Goals as goal
 

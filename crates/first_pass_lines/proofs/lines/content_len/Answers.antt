@@ -1,9 +1,5 @@
 use Rattle.std.proofs.Common.{sym, ap, arith, inl, inr}
-use Rattle.std.proofs.lemmas.Bool.{cases_lt}
-use Rattle.std.proofs.lemmas.List.{take_rest}
-use Rattle.std.proofs.lemmas.List.Sums.{prefix_len_is}
-use Rattle.std.specs.List.{prefix_len}
-use Rattle.first_pass_lines.specs.Lines.{is_content}
+use Rattle.first_pass_lines.proofs.Common.{prefix_len, prefix_len_is, cases_lt, take_rest, is_content}
 use Rattle.first_pass_lines.proofs.LaneLemmas.{after_passed}
 use Rattle.first_pass_lines.proofs.lines.content_len.Goals as goal
 

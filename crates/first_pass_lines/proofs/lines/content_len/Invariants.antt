@@ -1,5 +1,5 @@
 use Rattle.std.proofs.Common.{◌≡◌, ℕ, ◌<◌, ◌≤◌, ◌-◌, get_or, true}
-use Rattle.first_pass_lines.specs.Lines.{is_content}
+use Rattle.first_pass_lines.proofs.Common.{is_content}
 use Rattle.first_pass_lines.proofs.lines.content_len.Given as goal
 
 abbrev pub invariant-loop-from : goal.invariant-loop-from

@@ -1,7 +1,5 @@
 use Rattle.std.proofs.Common.{sym, arith}
-use Rattle.std.proofs.lemmas.Bool.{false_from_ne_true, not_from_false, not_from_true}
-use Rattle.std.proofs.lemmas.List.Sums.{prefix_len_is}
-use Rattle.first_pass_lines.specs.Lines.{is_content}
+use Rattle.first_pass_lines.proofs.Common.{prefix_len_is, false_from_ne_true, not_from_false, not_from_true, is_content}
 use Rattle.first_pass_lines.proofs.lines.far_content_len.Goals as goal
 
 pub returns-in-None-clause-value : goal.returns-in-None-clause-value

@@ -1,5 +1,5 @@
 use Rattle.std.proofs.Common.{◌≡◌, ℕ, ◌<◌, ◌≤◌, ◌-◌, length, get_or, true}
-use Rattle.first_pass_lines.specs.Lines.{is_white}
+use Rattle.first_pass_lines.proofs.Common.{is_white}
 use Rattle.first_pass_lines.proofs.lines.white_len.Given as goal
 
 abbrev pub invariant-loop-from : goal.invariant-loop-from

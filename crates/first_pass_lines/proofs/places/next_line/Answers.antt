@@ -1,5 +1,5 @@
 use Rattle.std.proofs.Common.{◌≡◌, drop, ap, ◌∙◌, arith}
-use Rattle.first_pass_lines.specs.Lines.{line_len}
+use Rattle.first_pass_lines.proofs.Common.{line_len}
 use Rattle.first_pass_lines.proofs.LineFacts.{line_len-within, lines_at-line, lines_at-end}
 use Rattle.first_pass_lines.proofs.places.next_line.Goals as goal
 

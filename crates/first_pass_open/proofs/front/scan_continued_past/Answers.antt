@@ -1,6 +1,6 @@
 use Rattle.std.proofs.Common.{drop, IsUtf8, ◌∙◌, ap, subst, sym}
 use Rattle.first_pass_grammar.proofs.Common.{line_rest, line_is_place, after}
-use Rattle.first_pass_open.specs.Path.{path_of}
+use Rattle.first_pass_open.proofs.Common.{path_of}
 use Rattle.first_pass_open.proofs.PlaceLemmas.{after_keeps}
 use Rattle.first_pass_open.proofs.front.scan_continued_past.Goals as goal
 

@@ -1,6 +1,6 @@
 use Rattle.std.proofs.Common.{drop, IsUtf8, ◌∙◌, ap, subst, sym}
 use Rattle.first_pass_grammar.proofs.Common.{line_rest, place_at, IsPlaceOf, line_is_place, front}
-use Rattle.first_pass_open.specs.Path.{path_of}
+use Rattle.first_pass_open.proofs.Common.{path_of}
 use Rattle.first_pass_open.proofs.PlaceLemmas.{front_keeps}
 use Rattle.first_pass_open.proofs.front.scan_front.Goals as goal
 

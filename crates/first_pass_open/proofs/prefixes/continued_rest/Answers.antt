@@ -1,9 +1,8 @@
 use Rattle.std.proofs.Common.{length, sym, ap, ◌∙◌, arith}
 use Rattle.first_pass_grammar.proofs.Common.{line_rest, after}
-use Rattle.first_pass_open.specs.Path.{path_in}
+use Rattle.first_pass_open.proofs.Common.{path_in, taken-yes}
 use Rattle.first_pass_open.proofs.FrontLemmas.{taken_none, in_spine, place_within, node_taken, stops, outer-all}
 use Rattle.first_pass_scan.proofs.BlankFacts.{taken_no}
-use Rattle.first_pass_lines.proofs.Columns.{taken-yes}
 use Rattle.first_pass_open.proofs.QuoteLemmas.{rest_passed}
 use Rattle.first_pass_open.proofs.prefixes.continued_rest.Goals as goal
 

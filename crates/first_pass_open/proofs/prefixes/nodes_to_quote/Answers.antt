@@ -1,5 +1,5 @@
 use Rattle.std.proofs.Common.{◌≡◌, ◌+◌, ◌-◌, false, sym, subst, ◌∙◌, arith}
-use Rattle.first_pass_open.specs.Path.{has_quote_after}
+use Rattle.first_pass_open.proofs.Common.{has_quote_after}
 use Rattle.first_pass_open.proofs.FrontLemmas.{place_within}
 use Rattle.first_pass_open.proofs.QuoteLemmas.{none_after_more}
 use Rattle.first_pass_open.proofs.prefixes.nodes_to_quote.Goals as goal

@@ -1,6 +1,6 @@
 use Rattle.std.proofs.Common.{◌≡◌, ◌≤◌, false, length}
 use Rattle.first_pass_grammar.proofs.Common.{Options}
-use Rattle.first_pass_open.specs.Path.{has_quote_after}
+use Rattle.first_pass_open.proofs.Common.{has_quote_after}
 use Rattle.first_pass_open.proofs.prefixes.nodes_to_quote.Given as goal
 
 -- no block quote is open inside the outermost `end` open nodes

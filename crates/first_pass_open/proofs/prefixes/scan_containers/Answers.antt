@@ -1,9 +1,8 @@
 use Rattle.std.proofs.Common.{◌≡◌, ℕ, ◌<◌, ◌≤◌, length, None, ◌∙◌, arith}
 use Rattle.first_pass_grammar.proofs.Common.{length-reverse, after}
-use Rattle.first_pass_open.specs.Path.{path_in, outer}
+use Rattle.first_pass_open.proofs.Common.{path_in, outer, taken-yes}
 use Rattle.first_pass_open.proofs.FrontLemmas.{taken_none, in_spine, place_within, node_taken, stops, front_is}
 use Rattle.first_pass_scan.proofs.BlankFacts.{taken_no}
-use Rattle.first_pass_lines.proofs.Columns.{taken-yes}
 use Rattle.first_pass_open.proofs.prefixes.scan_containers.Goals as goal
 use Rattle.first_pass_open.proofs.prefixes.scan_containers.Goals.{Then-not-takes_prefix}
 

@@ -1,6 +1,6 @@
 use Rattle.std.proofs.Common.{◌≡◌, Some}
 use Rattle.first_pass_grammar.proofs.Common.{after}
-use Rattle.first_pass_open.specs.Path.{path_in, outer}
+use Rattle.first_pass_open.proofs.Common.{path_in, outer}
 use Rattle.first_pass_open.proofs.prefixes.scan_containers.Given as goal
 
 abbrev pub invariant-loop-i : goal.invariant-loop-i

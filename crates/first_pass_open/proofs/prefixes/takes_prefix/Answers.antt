@@ -1,5 +1,5 @@
 use Rattle.std.proofs.Common.{refl, sym, ◌∙◌, arith}
-use Rattle.first_pass_open.specs.Path.{container_of}
+use Rattle.first_pass_open.proofs.Common.{container_of}
 use Rattle.first_pass_open.proofs.PathLemmas.{columns_prefix, quote_prefix, empty_prefix, by_quote}
 use Rattle.first_pass_open.proofs.prefixes.takes_prefix.Goals as goal
 

@@ -1,4 +1,4 @@
-use Rattle.first_pass_tokens.specs.Chains.{AreApart}
+use Rattle.first_pass_tokens.proofs.Common.{AreApart}
 use Rattle.first_pass_tokens.proofs.ChainLemmas.{add_token-apart}
 use Rattle.first_pass_tokens.proofs.LineLemmas.{line_keeps, cell_keeps}
 use Rattle.first_pass_tokens.proofs.laws.line_is_joined.Goals as goal

@@ -1,4 +1,4 @@
-use Rattle.first_pass_tokens.specs.MarkupBytes.{StandOver}
+use Rattle.first_pass_tokens.proofs.Common.{StandOver}
 use Rattle.first_pass_tokens.proofs.MarkupLemmas.{over_add}
 use Rattle.first_pass_tokens.proofs.LineLemmas.{line_keeps, cell_keeps}
 use Rattle.first_pass_tokens.proofs.laws.markup_has_its_bytes.Goals as goal

@@ -1,4 +1,4 @@
-use Rattle.first_pass_tokens.specs.MarkupBytes.{TextsHaveNoBackquote}
+use Rattle.first_pass_tokens.proofs.Common.{TextsHaveNoBackquote}
 use Rattle.first_pass_tokens.proofs.MarkupLemmas.{spare_add}
 use Rattle.first_pass_tokens.proofs.LineLemmas.{line_keeps, cell_keeps}
 use Rattle.first_pass_tokens.proofs.laws.texts_have_no_backquote.Goals as goal

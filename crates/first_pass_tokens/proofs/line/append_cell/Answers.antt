@@ -1,7 +1,6 @@
 use Rattle.std.proofs.Common.{arith}
-use Rattle.first_pass_tokens.specs.Pieces.{source}
+use Rattle.first_pass_tokens.proofs.Common.{source, AppendsCell}
 use Rattle.first_pass_tokens.specs.LineTokens.{blanks_at_end}
-use Rattle.first_pass_tokens.specs.TreeTokens.{AppendsCell}
 use Rattle.first_pass_tokens.proofs.LineLemmas.{cell_ends}
 use Rattle.first_pass_tokens.proofs.SoFar.{read_cell}
 use Rattle.first_pass_tokens.proofs.line.append_cell.Goals as goal

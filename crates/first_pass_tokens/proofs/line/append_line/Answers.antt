@@ -1,4 +1,4 @@
-use Rattle.first_pass_tokens.specs.Pieces.{content_in, source}
+use Rattle.first_pass_tokens.proofs.Common.{content_in, source}
 use Rattle.first_pass_tokens.proofs.LineLemmas.{ends_line-if}
 use Rattle.first_pass_tokens.proofs.SoFar.{read_ended}
 use Rattle.first_pass_tokens.proofs.line.append_line.Goals as goal

@@ -1,11 +1,9 @@
 use Rattle.std.proofs.Common.{◌+◌, length, refl, sym, ◌∙◌, ap, arith}
-use Rattle.first_pass_tokens.specs.Pieces.{Inline, content_in, size}
-use Rattle.first_pass_tokens.specs.LineTokens.{spot}
+use Rattle.first_pass_tokens.proofs.Common.{Inline, content_in, size, spot, spares_words}
 use Rattle.first_pass_tokens.proofs.SoFar.{IsRead, read_start, read_upto, read_more, read_piece, read_all, found_special, ended_by_text}
 use Rattle.first_pass_tokens.proofs.NearPipes.{near_pipes}
 use Rattle.first_pass_tokens.proofs.NamedTexts.{more_none, more_both}
 use Rattle.first_pass_tokens.proofs.RunPlaces.{front_upto}
-use Rattle.first_pass_walk.proofs.WalkFacts.{spares_words}
 use Rattle.first_pass_tokens.proofs.line.append_pieces.Goals as goal
 use Rattle.first_pass_tokens.proofs.line.append_pieces.Goals.{In_default, In-Some}
 

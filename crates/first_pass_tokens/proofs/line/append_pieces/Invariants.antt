@@ -1,7 +1,5 @@
 use Rattle.std.proofs.Common.{◌-◌, length}
-use Rattle.first_pass_tokens.specs.NamedTexts.{AreMore}
-use Rattle.first_pass_tokens.specs.LineTokens.{spot}
-use Rattle.first_pass_tokens.specs.Pieces.{content_in}
+use Rattle.first_pass_tokens.proofs.Common.{content_in, AreMore, spot}
 use Rattle.first_pass_tokens.proofs.SoFar.{IsRead}
 use Rattle.first_pass_tokens.proofs.line.append_pieces.Given as goal
 

@@ -1,6 +1,5 @@
 use Rattle.std.proofs.Common.{◌≡◌, ◌+◌}
-use Rattle.first_pass_tokens.specs.Chains.{run_tokens}
-use Rattle.first_pass_tokens.specs.TreeTokens.{with_tokens}
+use Rattle.first_pass_tokens.proofs.Common.{run_tokens, with_tokens}
 use Rattle.first_pass_tokens.proofs.line.append_run.Given as goal
 
 -- appending the remaining tokens to the tree gives the first tree with all of them

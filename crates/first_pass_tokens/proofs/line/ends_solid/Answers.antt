@@ -1,9 +1,5 @@
 use Rattle.std.proofs.Common.{◌≡◌, ℕ, ◌-◌, ◌<◌, ◌≤◌, Bool, false, List, length, slice_index, arith, slice_range}
-use Rattle.std.specs.List.{suffix_len}
-use Rattle.std.proofs.lemmas.Bool.{cases_lt, not-true}
-use Rattle.std.proofs.lemmas.Bool.Decides.{nat_tests}
-use Rattle.first_pass_items.specs.Bytes.{space}
-use Rattle.first_pass_lines.specs.Lines.{is_white}
+use Rattle.first_pass_tokens.proofs.Common.{cases_lt, not-true, space, nat_tests, is_white, suffix_len}
 use Rattle.first_pass_tokens.proofs.LineLemmas.{end_bounded}
 use Rattle.first_pass_tokens.proofs.line.ends_solid.Goals as goal
 use Rattle.first_pass_tokens.proofs.line.ends_solid.Goals.{then-start-end, else-start-end}

@@ -1,7 +1,5 @@
 use Rattle.std.proofs.Common.{◌≡◌, ◌+◌, ◌==◌, true, inl, inr, sym, ap, ◌∙◌, arith, slice_index}
-use Rattle.std.proofs.lemmas.Bool.{cases_lt}
-use Rattle.first_pass_items.specs.Bytes.{pipe}
-use Rattle.first_pass_tokens.specs.LineTokens.{is_word_or_hyphen}
+use Rattle.first_pass_tokens.proofs.Common.{cases_lt, pipe, is_word_or_hyphen}
 use Rattle.first_pass_tokens.proofs.PieceFacts.{at_byte}
 use Rattle.first_pass_tokens.proofs.NearPipes.{near_two}
 use Rattle.first_pass_tokens.proofs.line.pipes_end.Goals as goal

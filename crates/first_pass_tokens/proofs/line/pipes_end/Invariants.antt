@@ -1,5 +1,5 @@
 use Rattle.std.proofs.Common.{◌≡◌, ℕ, ◌-◌, ◌<◌, ◌≤◌, true, length}
-use Rattle.first_pass_tokens.specs.LineTokens.{is_near_pipe}
+use Rattle.first_pass_tokens.proofs.Common.{is_near_pipe}
 use Rattle.first_pass_tokens.proofs.line.pipes_end.Given as goal
 
 -- the bytes up to here are near pipes

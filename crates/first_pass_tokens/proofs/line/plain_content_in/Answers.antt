@@ -1,10 +1,7 @@
 use Rattle.std.proofs.Common.{◌≤◌, ℕ, List, Bool, inl, sym, ◌∙◌, arith, true≢false}
-use Rattle.std.proofs.lemmas.Bool.{cases_lt}
-use Rattle.first_pass_walk.specs.Walk.{IsNextMarked}
-use Rattle.first_pass_tokens.specs.Pieces.{content_in}
+use Rattle.first_pass_tokens.proofs.Common.{cases_lt, content_in, spares_words, IsNextMarked}
 use Rattle.first_pass_tokens.specs.LineTokens.{blanks_at_end}
 use Rattle.first_pass_tokens.proofs.SoFar.{cell_plain}
-use Rattle.first_pass_walk.proofs.WalkFacts.{spares_words}
 use Rattle.first_pass_tokens.proofs.line.plain_content_in.Goals as goal
 
 pub next_special_in_words-requires : goal.next_special_in_words-requires

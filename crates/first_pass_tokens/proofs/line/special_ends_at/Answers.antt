@@ -1,14 +1,8 @@
 use Rattle.std.proofs.Common.{◌≡◌, ◌≤◌, ◌<◌, ℕ, ◌==◌, ◌&&◌, ◌||◌, Bool, true, false, List, length, slice_index, slice_index_or, sym, ap, ◌∙◌, arith, eqb-true}
-use Rattle.std.proofs.Math.Bool.{or-true, or-false, or_comm}
-use Rattle.std.proofs.lemmas.Bool.{lt-leb}
-use Rattle.std.proofs.lemmas.Bool.Decides.{nat_tests}
-use Rattle.first_pass_items.specs.Bytes.{pipe}
+use Rattle.first_pass_tokens.proofs.Common.{lt-leb, pipe, nat_tests, Inline, content_in, is_line_end, has, tables, strikethrough, smart_punctuation, math}
+use Rattle.first_pass_tokens.proofs.Common.{superscript, subscript, low_special, or-true, or-false, or_comm, is_marked, MarksSpecial}
 use Rattle.first_pass_items.specs.declared.option_set.Options.{Options}
-use Rattle.first_pass_items.specs.OptionWords.{has, tables, strikethrough, smart_punctuation, math, superscript, subscript}
-use Rattle.first_pass_lines.specs.Lines.{is_line_end}
-use Rattle.first_pass_walk.specs.Walk.{is_special, is_marked, MarksSpecial}
-use Rattle.first_pass_walk.proofs.WalkFacts.{low_special}
-use Rattle.first_pass_tokens.specs.Pieces.{Inline, content_in}
+use Rattle.first_pass_walk.specs.Walk.{is_special}
 use Rattle.first_pass_tokens.specs.LineTokens.{content_ends_at}
 use Rattle.first_pass_tokens.proofs.line.special_ends_at.Goals as goal
 

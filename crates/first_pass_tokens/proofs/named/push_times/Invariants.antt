@@ -1,5 +1,5 @@
 use Rattle.std.proofs.Common.{◌≡◌, ◌++◌, encode_utf8, string_bytes}
-use Rattle.first_pass_tokens.specs.NamedTexts.{times}
+use Rattle.first_pass_tokens.proofs.Common.{times}
 use Rattle.first_pass_tokens.proofs.named.push_times.Given as goal
 
 -- the character is written this many times

@@ -1,5 +1,5 @@
 use Rattle.std.proofs.Common.{List, ℕ, ◌++◌, encode_utf8, refl, sym, ap, ◌∙◌, arith}
-use Rattle.first_pass_tokens.specs.NamedTexts.{times}
+use Rattle.first_pass_tokens.proofs.Common.{times}
 use Rattle.first_pass_tokens.proofs.DashLemmas.{em_dash, en_dash, em_bytes, en_bytes, en_utf8, half_boundary, middle}
 use Rattle.first_pass_tokens.proofs.named.short_dashes.Goals as goal
 

@@ -1,5 +1,5 @@
 use Rattle.std.proofs.Common.{arith}
-use Rattle.std.proofs.lemmas.Bool.Decides.{nat_tests}
+use Rattle.first_pass_tokens.proofs.Common.{nat_tests}
 use Rattle.first_pass_tokens.proofs.QuickPieces.{other_plain}
 use Rattle.first_pass_tokens.proofs.pieces.special_piece.Goals as goal
 

@@ -1,5 +1,5 @@
 use Rattle.std.proofs.Common.{◌≡◌, ◌≤◌, ◌-◌, ◌++◌, length, take, drop}
-use Rattle.first_pass_tree.specs.Forest.{cut_tokens}
+use Rattle.first_pass_tree.proofs.Common.{cut_tokens}
 use Rattle.first_pass_tree.proofs.node_list.cut_nodes.Given as goal
 
 abbrev pub invariant-loop-kept : goal.invariant-loop-kept

@@ -1,5 +1,5 @@
 use Rattle.std.proofs.Common.{◌≡◌, ◌-◌, ◌≤◌, length}
-use Rattle.first_pass_tree.specs.Forest.{depths, run_end}
+use Rattle.first_pass_tree.proofs.Common.{depths, run_end}
 use Rattle.first_pass_tree.proofs.node_list.deeper_end.Given as goal
 
 abbrev pub invariant-loop-end : goal.invariant-loop-end

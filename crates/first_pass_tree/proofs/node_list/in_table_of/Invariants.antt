@@ -1,5 +1,5 @@
 use Rattle.std.proofs.Common.{◌≡◌, ◌≤◌, length, take, reverse}
-use Rattle.first_pass_tree.specs.Forest.{depths, in_table, IsOpenPath}
+use Rattle.first_pass_tree.proofs.Common.{depths, in_table, IsOpenPath}
 use Rattle.first_pass_tree.proofs.node_list.in_table_of.Given as goal
 
 abbrev pub invariant-loop-left : goal.invariant-loop-left

@@ -1,5 +1,5 @@
 use Rattle.std.proofs.Common.{◌≡◌, ◌≤◌, length}
-use Rattle.first_pass_tree.specs.Forest.{depths, last_before}
+use Rattle.first_pass_tree.proofs.Common.{depths, last_before}
 use Rattle.first_pass_tree.proofs.node_list.last_of_depth.Given as goal
 
 abbrev pub invariant-loop-index : goal.invariant-loop-index

@@ -1,5 +1,5 @@
 use Rattle.std.proofs.Common.{◌<◌, arith, sym, ◌∙◌}
-use Rattle.first_pass_tree.specs.Forest.{shallower}
+use Rattle.first_pass_tree.proofs.Common.{shallower}
 use Rattle.first_pass_tree.proofs.Keeps.{map_from-next, map_from-end, set-keeps}
 use Rattle.first_pass_tree.proofs.node_list.lower.Goals as goal
 

@@ -1,5 +1,5 @@
 use Rattle.std.proofs.Common.{◌≡◌, ◌≤◌, ◌<◌, ◌-◌, ℕ, length, get_or}
-use Rattle.first_pass_tree.specs.Forest.{map_from, shallower, depths}
+use Rattle.first_pass_tree.proofs.Common.{map_from, shallower, depths}
 use Rattle.first_pass_tree.proofs.node_list.lower.Given as goal
 
 abbrev pub invariant-loop-next : goal.invariant-loop-next

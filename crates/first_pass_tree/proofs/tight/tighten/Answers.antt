@@ -1,6 +1,5 @@
 use Rattle.std.proofs.Common.{ℕ, List, sym, ap, ◌∙◌, slice_index, arith}
-use Rattle.first_pass_items.specs.declared.item.Item.{Item}
-use Rattle.first_pass_tree.specs.Forest.{depths}
+use Rattle.first_pass_tree.proofs.Common.{depths, Item}
 use Rattle.first_pass_tree.proofs.BodyLemmas.{body_of}
 use Rattle.first_pass_tree.proofs.TightLemmas.{node_stays, node_tight, two_deeper, not_two_deeper, other_tight, tight_same_body}
 use Rattle.first_pass_tree.proofs.tight.tighten.Goals as goal

@@ -1,5 +1,5 @@
 use Rattle.std.proofs.Common.{sym, ◌∙◌, arith}
-use Rattle.std.proofs.lemmas.Bool.Decides.{nat_tests}
+use Rattle.first_pass_walk.proofs.Common.{nat_tests}
 use Rattle.first_pass_walk.proofs.AsciiFacts.{punctuation_in_ascii}
 use Rattle.first_pass_walk.proofs.flank.is_punctuation.Goals as goal
 

@@ -1,5 +1,5 @@
 use Rattle.std.proofs.Common.{IfSome, rules}
-use Rattle.std.specs.Char.{IsScalar}
+use Rattle.first_pass_walk.proofs.Common.{IsScalar}
 use Rattle.first_pass_walk.proofs.FlankFacts.{last_char_by}
 use Rattle.first_pass_walk.proofs.flank.last_char.Goals as goal
 

@@ -1,6 +1,5 @@
 use Rattle.std.proofs.Common.{◌≡◌, ℕ, ◌+◌, ◌-◌, w64, inl, inr, ap, ◌∙◌, arith}
-use Rattle.std.proofs.lemmas.Nat.Bits.{bit_at-lt, bit_at_and, bit_at-trailing_zeros}
-use Rattle.std.specs.Int.{bit_at, trailing_zeros}
+use Rattle.first_pass_walk.proofs.Common.{bit_at-lt, bit_at_and, bit_at-trailing_zeros, bit_at, trailing_zeros}
 use Rattle.first_pass_walk.proofs.StopLemmas.{cleared}
 use Rattle.first_pass_walk.proofs.walk.first_at_stops.Goals as goal
 

@@ -1,6 +1,5 @@
 use Rattle.std.proofs.Common.{◌≡◌, ℕ, ◌+◌, false}
-use Rattle.std.specs.Int.{bit_at}
-use Rattle.first_pass_walk.specs.Walk.{is_marked}
+use Rattle.first_pass_walk.proofs.Common.{bit_at, is_marked}
 use Rattle.first_pass_walk.proofs.walk.first_at_stops.Given as goal
 
 -- the bit of each byte that is still to be tested is set

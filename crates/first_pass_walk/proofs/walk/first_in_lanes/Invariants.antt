@@ -1,5 +1,5 @@
 use Rattle.std.proofs.Common.{◌≡◌, ℕ, ◌+◌, ◌<◌, ◌≤◌, false}
-use Rattle.first_pass_walk.specs.Walk.{is_marked}
+use Rattle.first_pass_walk.proofs.Common.{is_marked}
 use Rattle.first_pass_walk.proofs.walk.first_in_lanes.Given as goal
 
 abbrev pub invariant-loop-lane : goal.invariant-loop-lane

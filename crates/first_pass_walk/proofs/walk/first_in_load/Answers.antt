@@ -1,9 +1,5 @@
 use Rattle.std.proofs.Common.{◌≡◌, ℕ, ◌+◌, ◌-◌, w64, bit_and, false, ap, ◌∙◌, arith}
-use Rattle.std.proofs.lemmas.Bool.{cases_eq}
-use Rattle.std.proofs.lemmas.Option.{IfSome_then}
-use Rattle.std.proofs.lemmas.Nat.Bits.{bit_at-lt, bit_at_and, bit_at-trailing_zeros}
-use Rattle.std.specs.Int.{bit_at, trailing_zeros}
-use Rattle.first_pass_walk.specs.Walk.{is_marked}
+use Rattle.first_pass_walk.proofs.Common.{bit_at-lt, bit_at_and, bit_at-trailing_zeros, bit_at, trailing_zeros, cases_eq, is_marked, IfSome_then}
 use Rattle.first_pass_walk.proofs.StopLemmas.{if_none, bit_below, cleared, none_marked, first_is_next}
 use Rattle.first_pass_walk.proofs.walk.first_in_load.Goals as goal
 use Rattle.first_pass_walk.proofs.walk.first_in_load.Goals.{After-first_at_stops}

@@ -1,7 +1,5 @@
 use Rattle.std.proofs.Common.{ℕ, ◌+◌, ◌-◌, ◌/◌, ◌^◌, length, sym, ap, ◌∙◌, arith}
-use Rattle.std.proofs.lemmas.Option.{IfSome_then}
-use Rattle.std.proofs.lemmas.Nat.Bits.{bit_at-zero}
-use Rattle.std.specs.Int.{bit_at}
+use Rattle.first_pass_walk.proofs.Common.{bit_at-zero, bit_at, IfSome_then}
 use Rattle.first_pass_walk.proofs.StopLemmas.{if_none, bit_below, shifted_bit, tail_stops, unmarked_from, none_marked, first_is_next, next_later}
 use Rattle.first_pass_walk.proofs.walk.next_special_in_words.Goals as goal
 

@@ -1,5 +1,5 @@
 use Rattle.std.proofs.Common.{◌≡◌, ℕ, ◌-◌, ◌<◌, ◌≤◌, length, false}
-use Rattle.first_pass_walk.specs.Walk.{is_marked}
+use Rattle.first_pass_walk.proofs.Common.{is_marked}
 use Rattle.first_pass_walk.proofs.walk.next_special_in_words.Given as goal
 
 abbrev pub invariant-loop-next : goal.invariant-loop-next

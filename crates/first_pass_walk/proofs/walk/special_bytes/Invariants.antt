@@ -1,5 +1,5 @@
 use Rattle.std.proofs.Common.{◌≡◌, ℕ, ◌<◌, false, length, slice_index_or}
-use Rattle.first_pass_walk.specs.Walk.{is_special}
+use Rattle.first_pass_walk.proofs.Common.{is_special}
 use Rattle.first_pass_walk.proofs.walk.special_bytes.Given as goal
 
 abbrev pub invariant-loop-byte : goal.invariant-loop-byte

@@ -1,5 +1,5 @@
 use Rattle.std.proofs.Common.{◌≡◌, ◌⊎◌, ◌≤◌, ◌+◌, [], ◌∷◌, length, None, refl, inl, inr, arith, of_calls}
-use Rattle.std.proofs.lemmas.Bool.{cases_lt}
+use Rattle.first_pass_walk.proofs.Common.{cases_lt}
 use Rattle.first_pass_walk.proofs.WalkLemmas.{walks_from_sum}
 use Rattle.first_pass_walk.proofs.walk.walk_special_bytes.Goals as goal
 

@@ -1,5 +1,5 @@
 use Rattle.std.proofs.Common.{ℕ, List, length, ◌-◌}
-use Rattle.first_pass_walk.specs.Walk.{Walks}
+use Rattle.first_pass_walk.proofs.Common.{Walks}
 use Rattle.first_pass_walk.proofs.walk.walk_special_bytes.Given as goal
 
 -- a walk that continues from here is a walk from the start

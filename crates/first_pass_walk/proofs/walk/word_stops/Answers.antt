@@ -1,7 +1,7 @@
 use Rattle.std.proofs.Common.{ℕ, leb, cond, bit_and, refl, arith}
+use Rattle.first_pass_walk.proofs.Common.{is_passed}
 use Rattle.std.proofs.lemmas.Simd.{zip2_splat, length-chunk}
 use lib.Lanes.{chunk}
-use Rattle.first_pass_walk.specs.Walk.{is_passed}
 use Rattle.first_pass_lines.proofs.LaneLemmas.{joined, splat_is}
 use Rattle.first_pass_lines.proofs.MaskLemmas.{mask_within, mask_stops}
 use Rattle.first_pass_walk.proofs.walk.word_stops.Goals as goal

@@ -1,9 +1,8 @@
 use Rattle.std.proofs.Common.{◌+◌, ◌≤◌, ℕ, List, length, drop, Option, Some, None, IfSome, IsCharBoundary, sym, ap, subst, ◌∙◌, arith, length-take-le}
 use Rattle.first_pass_grammar.proofs.Common.{false≢true, line_len, text_upto}
+use Rattle.first_pass.proofs.Common.{ordered_at_later, more_whole}
 use Rattle.first_pass_blocks.proofs.Common.{named_more, names_of, extends_both, extends_alignments, line_stops}
 use Rattle.first_pass.specs.Views.{allocs_of, tree_of}
-use Rattle.first_pass_order.proofs.OrderLemmas.{ordered_at_later}
-use Rattle.first_pass_order.proofs.WholeKept.{more_whole}
 use Rattle.first_pass.proofs.Chains.{chain_later}
 use Rattle.first_pass.proofs.Adding.{may_add_later}
 use Rattle.first_pass.proofs.OrderJoin.{before_cut, front_of}

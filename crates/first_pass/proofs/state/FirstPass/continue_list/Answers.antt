@@ -1,6 +1,5 @@
 use Rattle.std.proofs.Common.{refl}
-use Rattle.first_pass_order.proofs.NamedLemmas.{continued_named}
-use Rattle.first_pass_order.proofs.PopOrder.{continue_list_keeps_order}
+use Rattle.first_pass.proofs.Common.{continued_named, continue_list_keeps_order}
 use Rattle.first_pass.proofs.TablesWhole.{continued_whole}
 use Rattle.first_pass.proofs.state.FirstPass.continue_list.Goals as goal
 

@@ -1,7 +1,5 @@
 use Rattle.std.proofs.Common.{refl}
-use Rattle.first_pass_order.proofs.NamedLemmas.{empty_item_closed_named}
-use Rattle.first_pass_order.proofs.PopOrder.{finish_item_keeps_order}
-use Rattle.first_pass_order.proofs.WholeKept.{empty_item_closed_whole}
+use Rattle.first_pass.proofs.Common.{empty_item_closed_named, finish_item_keeps_order, empty_item_closed_whole}
 use Rattle.first_pass.proofs.state.FirstPass.finish_empty_list_item.Goals as goal
 
 pub returns : goal.returns

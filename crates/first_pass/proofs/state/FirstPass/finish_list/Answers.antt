@@ -1,7 +1,6 @@
 use Rattle.std.proofs.Common.{refl, ap, ◌∙◌}
+use Rattle.first_pass.proofs.Common.{list_finished_outside, finish_list_keeps_order}
 use Rattle.first_pass_blocks.proofs.Common.{is_list, list_finished_blank, list_finished_named, list_finished_whole, top_body, PassState}
-use Rattle.first_pass_order.proofs.Nests.{list_finished_outside}
-use Rattle.first_pass_order.proofs.PopOrder.{finish_list_keeps_order}
 use Rattle.first_pass.proofs.state.FirstPass.finish_list.Goals as goal
 
 pub returns : goal.returns

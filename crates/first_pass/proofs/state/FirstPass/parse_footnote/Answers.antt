@@ -1,10 +1,9 @@
 use Rattle.std.proofs.Common.{◌≡◌, ◌≤◌, ℕ, Option, Some, None, IfSome, IsCharBoundary, false, refl, sym, ap, ◌∙◌}
 use Rattle.first_pass_grammar.proofs.Common.{none-some, AreNamed, HasWholeTables, IsForest}
+use Rattle.first_pass.proofs.Common.{FootnoteDefinition, MayAddAt, top_begun, empty_item_closed, footnote_left, gap_marked, list_closed, footnote_keeps_order}
+use Rattle.first_pass.proofs.Common.{more_whole, note_whole}
 use Rattle.first_pass_items.specs.declared.item.CowIndex.{CowIndex}
-use Rattle.first_pass_items.specs.declared.item.ItemBody.TheVariants.{FootnoteDefinition}
-use Rattle.first_pass_lists.specs.Closing.{empty_item_closed, footnote_begun, footnote_left, gap_marked, list_closed}
-use Rattle.first_pass_containers.proofs.OrderSteps.{top_begun}
-use Rattle.first_pass.specs.Adding.{MayAddAt}
+use Rattle.first_pass_lists.specs.Closing.{footnote_begun}
 use Rattle.first_pass_blocks.proofs.Common.{is_list, names_of, top_body, IsReadTo, PassState, StaysSame, allocs_of, state_of, source_text, tree_of}
 use Rattle.first_pass_blocks.specs.declared.state.BlockPass.{BlockPass}
 use Rattle.first_pass_blocks.specs.OpenedFootnotes.{ReadsFootnote}
@@ -12,8 +11,6 @@ use Rattle.first_pass_grammar.proofs.Names.MoreNames.{extends_named}
 use Rattle.first_pass_lists.proofs.NoEmptyItem.{footnote_begun_none}
 use Rattle.first_pass_blocks.proofs.FootnoteOpened.{IsRead, opened_named}
 use Rattle.first_pass_blocks.proofs.LinkDefinitions.{found_by, none_by}
-use Rattle.first_pass_order.proofs.PopOrder.{footnote_keeps_order}
-use Rattle.first_pass_order.proofs.WholeKept.{more_whole, note_whole}
 use Rattle.first_pass.proofs.state.FirstPass.parse_footnote.Goals as goal
 
 -- no footnote definition begins there, and nothing changed

@@ -1,8 +1,8 @@
 use Rattle.std.proofs.Common.{◌+◌, drop, None, IsCharBoundary, refl, sym, ap, subst, ◌∙◌}
 use Rattle.first_pass_grammar.proofs.Common.{rule_block}
+use Rattle.first_pass.proofs.Common.{MayAddAt}
 use Rattle.first_pass_blocks.proofs.Common.{names_of, PassState, IsOrderedAt, block_added, block_ordered, line_stops}
 use Rattle.first_pass_grammar.proofs.Names.MoreNames.{extends_none}
-use Rattle.first_pass.specs.Adding.{MayAddAt}
 use Rattle.first_pass.proofs.CallsNamed.{rule_named}
 use Rattle.first_pass.proofs.Adding.{may_add_added}
 use Rattle.first_pass.proofs.LineLengths.{rule_line}

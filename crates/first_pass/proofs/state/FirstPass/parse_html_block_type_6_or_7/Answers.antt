@@ -1,10 +1,9 @@
 use Rattle.std.proofs.Common.{◌≡◌, ℕ, ◌≤◌, false, length, None, refl, sym, ap, subst, ◌∙◌}
 use Rattle.first_pass_grammar.proofs.Common.{offset, lines_from}
+use Rattle.first_pass.proofs.Common.{IsOrderedFrom, added_outside}
 use Rattle.first_pass_blocks.proofs.Common.{path_of, after_line_at, html_to_blank, PassState, names_of, extends_none, first_at, first_is, path_added}
 use Rattle.first_pass_blocks.proofs.Common.{block_ordered, IsOrderedAt}
 use Rattle.first_pass_lists.specs.Closing.{state_with}
-use Rattle.first_pass_order.specs.Ordered.{IsOrderedFrom}
-use Rattle.first_pass_order.proofs.Nests.{added_outside}
 use Rattle.first_pass_blocks.proofs.Leaves.KindBlocks.{html_stops, ordered_stopped, to_blank_between, to_blank_stands, to_blank_few}
 use Rattle.first_pass.proofs.Added.{adds_kept}
 use Rattle.first_pass.proofs.CallsNamed.{html_named}

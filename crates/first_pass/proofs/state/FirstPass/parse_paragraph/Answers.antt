@@ -1,7 +1,6 @@
 use Rattle.std.proofs.Common.{◌≡◌, None, refl, sym, ap, subst}
+use Rattle.first_pass.proofs.Common.{MayAddAt, text_ordered}
 use Rattle.first_pass_blocks.proofs.Common.{names_of, PassState, IsOrderedAt, block_added}
-use Rattle.first_pass_containers.proofs.OrderSteps.{text_ordered}
-use Rattle.first_pass.specs.Adding.{MayAddAt}
 use Rattle.first_pass.proofs.CallsNamed.{text_added}
 use Rattle.first_pass.proofs.Adding.{may_add_added}
 use Rattle.first_pass.proofs.TablesWhole.{text_block_whole}

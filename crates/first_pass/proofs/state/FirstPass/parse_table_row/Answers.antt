@@ -1,7 +1,7 @@
 use Rattle.std.proofs.Common.{refl, subst}
 use Rattle.first_pass_grammar.proofs.Common.{document}
+use Rattle.first_pass.proofs.Common.{open_table}
 use Rattle.first_pass_blocks.proofs.Common.{names_of, OpenTable, ReadsRowLine}
-use Rattle.first_pass_tables.specs.Appends.{open_table}
 use Rattle.first_pass_tables.proofs.RowsAdded.{line_row_ends, line_row_none}
 use Rattle.first_pass.proofs.CallsNamed.{row_line_named}
 use Rattle.first_pass.proofs.RowsOrdered.{line_row_stops, row_read}

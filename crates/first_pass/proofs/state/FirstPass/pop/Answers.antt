@@ -1,9 +1,6 @@
 use Rattle.std.proofs.Common.{refl, sym, ap, ◌∙◌, true≢false}
+use Rattle.first_pass.proofs.Common.{popped_outside, popped_named, pop_keeps_order, popped_whole}
 use Rattle.first_pass_blocks.proofs.Common.{is_list, top_body, PassState}
-use Rattle.first_pass_order.proofs.NamedLemmas.{popped_named}
-use Rattle.first_pass_order.proofs.Nests.{popped_outside}
-use Rattle.first_pass_order.proofs.PopOrder.{pop_keeps_order}
-use Rattle.first_pass_order.proofs.WholeKept.{popped_whole}
 use Rattle.first_pass.proofs.state.FirstPass.pop.Goals as goal
 
 pub returns : goal.returns

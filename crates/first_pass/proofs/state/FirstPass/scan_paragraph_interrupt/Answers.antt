@@ -1,10 +1,11 @@
 use Rattle.std.proofs.Common.{◌≡◌, ◌&&◌, ◌||◌, not, ℕ, List, Bool, true, false, None, OnErr, is_some, refl, sym, ap, subst, ◌∙◌}
 use Rattle.first_pass_grammar.proofs.Common.{Item, Options, has, footnotes, definition_list, Forest, in_table, footnote_head, interrupts_with}
+use Rattle.first_pass.proofs.Common.{context_in}
 use Rattle.std.proofs.lemmas.Result.{IfOk-weaker}
 use Rattle.first_pass_grammar.specs.TableHeads.{table_interrupts}
 use Rattle.first_pass_kinds.specs.Memory.{may_head_table}
 use Rattle.first_pass.specs.Interrupts.{colon_interrupts}
-use Rattle.first_pass.specs.Views.{context_in, tree_of}
+use Rattle.first_pass.specs.Views.{tree_of}
 use Rattle.first_pass.proofs.state.FirstPass.scan_paragraph_interrupt.Goals as goal
 
 -- three tests, the last two of them under options, and a fourth

@@ -1,9 +1,8 @@
 use Rattle.std.proofs.Common.{◌+◌, drop, IsCharBoundary, refl, sym, ap, ◌∙◌, subst, arith}
 use Rattle.first_pass_grammar.proofs.Common.{is_blank_line, line_len, Rest, after_columns, Place, offset, moved_columns, columns_keep, columns_line_end}
 use Rattle.first_pass_grammar.proofs.Common.{columns_shorter}
-use Rattle.first_pass_blocks.proofs.Common.{after_line_at, read_to}
+use Rattle.first_pass_blocks.proofs.Common.{after_line_at, read_to, offset_later}
 use Rattle.first_pass_ready.proofs.EnterLemmas.{blank_columns}
-use Rattle.first_pass_containers.proofs.OrderSteps.{offset_later}
 use Rattle.first_pass_blocks.proofs.Leaves.KindBlocks.{found_says, code_added, indented_between}
 use Rattle.first_pass_blocks.proofs.state.BlockPass.append_code.Goals as goal
 

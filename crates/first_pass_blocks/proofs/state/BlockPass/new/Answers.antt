@@ -1,11 +1,5 @@
 use Rattle.std.proofs.Common.{length, None, false, refl, arith, rules}
-use Rattle.first_pass_blocks.proofs.Common.{state_with, ordered_none}
-use Rattle.first_pass_order.proofs.FootnotesKept.{first_notes}
-use Rattle.first_pass_order.proofs.NamedLemmas.{first_named}
-use Rattle.first_pass_order.proofs.Nests.{first_closes}
-use Rattle.first_pass_order.proofs.OrderLemmas.{ordered_first}
-use Rattle.first_pass_order.proofs.WholeKept.{first_whole}
-use Rattle.first_pass_ready.proofs.StateLemmas.{ready_first}
+use Rattle.first_pass_blocks.proofs.Common.{state_with, ordered_none, first_named, first_whole, first_notes, first_closes, ordered_first, ready_first}
 use Rattle.first_pass_blocks.proofs.FootnoteLabels.{labels_none}
 use Rattle.first_pass_blocks.proofs.state.BlockPass.new.Goals as goal
 

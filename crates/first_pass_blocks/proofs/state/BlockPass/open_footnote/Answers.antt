@@ -1,8 +1,6 @@
 use Rattle.std.proofs.Common.{◌+◌, ◌<◌, Bool, drop, IsCharBoundary, refl, sym, ap, ◌∙◌}
 use Rattle.first_pass_grammar.proofs.Common.{footnote_at}
-use Rattle.first_pass_blocks.proofs.Common.{all_keep, context_in, head_at_mark}
-use Rattle.first_pass_blocks.specs.declared.state.BlockPass.{BlockPass}
-use Rattle.first_pass_containers.proofs.Openings.HeadLemmas.{no_mark}
+use Rattle.first_pass_blocks.proofs.Common.{all_keep, context_in, head_at_mark, BlockPass, no_mark}
 use Rattle.first_pass_blocks.proofs.FootnoteOpened.{IsRead, footnote_opened}
 use Rattle.first_pass_blocks.proofs.LinkDefinitions.{found_by, none_by}
 use Rattle.first_pass_blocks.proofs.state.BlockPass.open_footnote.Goals.{In-Some-2}

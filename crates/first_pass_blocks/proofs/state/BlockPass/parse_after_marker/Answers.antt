@@ -1,7 +1,6 @@
 use Rattle.std.proofs.Common.{ℕ, refl, arith}
 use Rattle.first_pass_grammar.proofs.Common.{line_end}
-use Rattle.first_pass_blocks.proofs.Common.{place_end, LineAt, reads_none}
-use Rattle.first_pass_blocks.specs.declared.state.BlockPass.{BlockPass}
+use Rattle.first_pass_blocks.proofs.Common.{place_end, LineAt, reads_none, BlockPass}
 use Rattle.first_pass_blocks.proofs.BlockRead.{passes_state, line_ended}
 use Rattle.first_pass_blocks.proofs.state.BlockPass.parse_after_marker.Goals as goal
 

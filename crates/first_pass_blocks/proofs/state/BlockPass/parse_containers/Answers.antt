@@ -1,10 +1,7 @@
 use Rattle.std.proofs.Common.{◌≡◌, ◌<◌, length, IsCharBoundary, refl, sym, subst, arith}
 use Rattle.first_pass_grammar.proofs.Common.{Place, line_end}
 use Rattle.first_pass_blocks.proofs.Common.{AfterMarker, OnLine, TriesFootnote, Position, InLine, LeafAt, ReadsTo, last_at, FinishesNothing, state_of}
-use Rattle.first_pass_blocks.proofs.Common.{only_leaf}
-use Rattle.first_pass_containers.specs.declared.openers.Start.{Start}
-use Rattle.first_pass_blocks.specs.declared.state.BlockPass.{BlockPass}
-use Rattle.first_pass_containers.specs.Starts.{start_opened, after_at, BeginsNoContainer}
+use Rattle.first_pass_blocks.proofs.Common.{only_leaf, BlockPass, start_opened, after_at, BeginsNoContainer, Start}
 use Rattle.first_pass_blocks.proofs.Leaves.TextLemmas.{IsAtPlain, plain_leaf, new_text}
 use Rattle.first_pass_blocks.proofs.BlockRead.{passes_state, passes_both, entered_read, state_at, ReachesPlace, place_reached, reached_start, reached_still}
 use Rattle.first_pass_blocks.proofs.BlockRead.{same_parts, leaf_reached}
@@ -12,9 +9,8 @@ use Rattle.first_pass_blocks.proofs.OpenedContainer.{IsBegun, begun, last_is}
 use Rattle.first_pass_blocks.proofs.TriedFootnote.{IsTried, tried, IsNested, opens_note}
 use Rattle.first_pass_containers.proofs.Openings.StartLemmas.{start_just_opened, no_start, not_after_definition, finishes_none}
 use Rattle.first_pass_containers.proofs.Openings.Indented.{plain_begins_none, start_found, start_missing}
-use Rattle.first_pass_blocks.proofs.state.BlockPass.parse_containers.Goals.{Then-not-branch, In_ok-open_start, Joined-not-branch, in-OnLine}
-use Rattle.first_pass_blocks.proofs.state.BlockPass.parse_containers.Goals.{in_default-matches, then-not-branch+in-Some+in_ok-open_start+else-not-matches}
-use Rattle.first_pass_blocks.proofs.state.BlockPass.parse_containers.Goals.{else-not-branch}
+use Rattle.first_pass_blocks.proofs.state.BlockPass.parse_containers.Goals.{Then-not-branch, In_ok-open_start, Joined-not-branch, in-OnLine, in_default-matches}
+use Rattle.first_pass_blocks.proofs.state.BlockPass.parse_containers.Goals.{then-not-branch+in-Some+in_ok-open_start+else-not-matches, else-not-branch}
 use Rattle.first_pass_blocks.proofs.state.BlockPass.parse_containers.Goals as goal
 
 pub loop-place-init : goal.loop-place-init

@@ -1,7 +1,6 @@
 use Rattle.std.proofs.Common.{◌≡◌, drop, false, sym, ap, ◌∙◌}
 use Rattle.first_pass_grammar.proofs.Common.{left_bracket, begins, in_table}
-use Rattle.first_pass_blocks.proofs.Common.{tables_of, context_in}
-use Rattle.first_pass_blocks.specs.declared.state.BlockPass.{BlockPass}
+use Rattle.first_pass_blocks.proofs.Common.{tables_of, context_in, BlockPass}
 use Rattle.first_pass_blocks.proofs.LinkDefinitions.{run_is_empty, puts_none}
 use Rattle.first_pass_blocks.proofs.state.BlockPass.parse_definitions.Goals as goal
 

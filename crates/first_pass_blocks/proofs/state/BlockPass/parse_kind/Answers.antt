@@ -2,16 +2,10 @@ use Rattle.std.proofs.Common.{◌≡◌, ◌≤◌, inl, length, IsCharBoundary,
 use Rattle.first_pass_grammar.proofs.Common.{IsForest, Place, offset, line_end, unindented, IsKind, document, lines_from}
 use Rattle.first_pass_blocks.proofs.Common.{names_of, tables_of, extends_none, place_end, with_tree, PassState, line_end_at, marked_kind, Says, kind_says}
 use Rattle.first_pass_blocks.proofs.Common.{list_finished, line_or, count, list_finished_blank, line_or-below, place_before_end, list_finished_none}
-use Rattle.first_pass_blocks.proofs.Common.{ordered_none}
-use Rattle.first_pass_kinds.specs.BlockStart.{IsFoundAt, kind_of}
+use Rattle.first_pass_blocks.proofs.Common.{ordered_none, blank_named, blank_whole, notes, blank_notes, ready_blank_leaf, blank_count, IsFoundAt, kind_of}
 use Rattle.first_pass_kinds.specs.declared.kinds.MarkedLeaf.{MarkedLeaf}
-use Rattle.first_pass_order.proofs.CountLemmas.{blank_count}
 use Rattle.first_pass_blocks.proofs.Leaves.KindBlocks.{html_read, leaf_read, marked_leaf, columns_are, stands_at, AddsHtml}
-use Rattle.first_pass_containers.proofs.Leaves.LeafLemmas.{ready_blank_leaf}
-use Rattle.first_pass_order.proofs.FootnotesKept.{notes, blank_notes}
-use Rattle.first_pass_order.proofs.NamedLemmas.{blank_named}
 use Rattle.first_pass_order.proofs.PopOrder.{read_blank_read}
-use Rattle.first_pass_order.proofs.WholeKept.{blank_whole}
 use Rattle.first_pass_blocks.proofs.BlockRead.{state_at}
 use Rattle.first_pass_blocks.proofs.FootnoteLabels.{labels_stay}
 use Rattle.first_pass_blocks.proofs.state.BlockPass.parse_kind.Goals as goal

@@ -1,7 +1,6 @@
 use Rattle.std.proofs.Common.{◌+◌, drop, refl, subst, ap, ◌∙◌}
 use Rattle.first_pass_grammar.proofs.Common.{line_len, Place}
-use Rattle.first_pass_containers.specs.Starts.{BeginsNoContainer}
-use Rattle.first_pass_blocks.specs.declared.state.BlockPass.{BlockPass}
+use Rattle.first_pass_blocks.proofs.Common.{BlockPass, BeginsNoContainer}
 use Rattle.first_pass_blocks.proofs.BlockRead.{HasState, IsEntered, line_entered, line_passed, line_leaf_read}
 use Rattle.first_pass_blocks.proofs.state.BlockPass.parse_known.Goals.{In-Some}
 use Rattle.first_pass_blocks.proofs.state.BlockPass.parse_known.Goals as goal

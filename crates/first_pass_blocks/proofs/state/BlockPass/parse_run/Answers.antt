@@ -1,12 +1,10 @@
 use Rattle.std.proofs.Common.{◌≡◌, ℕ, ◌+◌, List, drop, None, Some, false, IsCharBoundary, refl, sym, ap, subst, ◌∙◌, if◌then◌else◌, Option}
 use Rattle.first_pass_grammar.proofs.Common.{CowStr, LinkDef, line_len, Place, offset, IsPlaceOf, in_table, Rest, reference_definition_at, Context}
-use Rattle.first_pass_blocks.proofs.Common.{Source, text_place, tables_of, link_entry, IsReference, context_in, line_stops, PutsDefinitions}
-use Rattle.first_pass_blocks.proofs.LinkDefinitions.{one_written, written_here, none_by, found_here, one_more, stops_by, goes_by, line_is_there}
-use Rattle.first_pass_blocks.proofs.LinkDefinitions.{ReferenceFound, run_begun, run_flows, run_ends, run_goes_on, defined_none, text_at, RunWithOne, stops_at}
-use Rattle.first_pass_blocks.proofs.LinkDefinitions.{rest_at, puts_none, same_answers}
+use Rattle.first_pass_blocks.proofs.Common.{Source, text_place, tables_of, link_entry, IsReference, context_in, line_stops, PutsDefinitions, BlockPass, Entries}
+use Rattle.first_pass_blocks.proofs.LinkDefinitions.{one_written, written_here, none_by, found_here, one_more, stops_by, goes_by, line_is_there, ReferenceFound}
+use Rattle.first_pass_blocks.proofs.LinkDefinitions.{run_begun, run_flows, run_ends, run_goes_on, defined_none, text_at, RunWithOne, stops_at, rest_at}
+use Rattle.first_pass_blocks.proofs.LinkDefinitions.{puts_none, same_answers}
 use Rattle.first_pass_definitions.specs.Found.{IsWritten}
-use Rattle.first_pass_names.specs.TableEntries.{Entries}
-use Rattle.first_pass_blocks.specs.declared.state.BlockPass.{BlockPass}
 use Rattle.first_pass_blocks.proofs.state.BlockPass.parse_run.Goals.{After-rest_of, In_ok-rest}
 use Rattle.first_pass_blocks.proofs.state.BlockPass.parse_run.Goals as goal
 

@@ -1,9 +1,7 @@
 use Rattle.std.proofs.Common.{◌≡◌, IsUtf8, inl, inr, ℕ, ◌+◌, List, drop, Option, false, Some, None, refl, subst, ◌∙◌, if◌then◌else◌, ap, arith}
 use Rattle.first_pass_grammar.proofs.Common.{line_len, Rest, Place, line_rest, place_at, line_end, IsPlaceOf, Context, is_ordinary_after_tag, document}
-use Rattle.first_pass_blocks.proofs.Common.{context_in, text_place, ordered_none, place_before_end, tables_of}
-use Rattle.first_pass_containers.proofs.OrderSteps.{ordered_at_place}
-use Rattle.first_pass_containers.proofs.Leaves.LeafLemmas.{ready_any_line, ready_its_line}
-use Rattle.first_pass_blocks.specs.declared.state.BlockPass.{BlockPass}
+use Rattle.first_pass_blocks.proofs.Common.{context_in, text_place, ordered_none, place_before_end, tables_of, BlockPass, ordered_at_place, ready_any_line}
+use Rattle.first_pass_blocks.proofs.Common.{ready_its_line}
 use Rattle.first_pass_blocks.proofs.BlockRead.{keeps_none}
 use Rattle.first_pass_blocks.proofs.LinkDefinitions.{stops_by, goes_by, rest_at}
 use Rattle.first_pass_blocks.proofs.state.BlockPass.parse_tagged.Goals.{In_ok-scan_flowing_line, In-Some}

@@ -1,13 +1,9 @@
 use Rattle.std.proofs.Common.{◌≡◌, inl, ℕ, Some, refl, ap, arith}
 use Rattle.first_pass_grammar.proofs.Common.{all_taken, unindented, document, offset}
 use Rattle.first_pass_blocks.proofs.Common.{AddsBetween, MarkerBetween, with_tree, PassState, all_keep, read_to, block_count, unindented_later, tables_of}
-use Rattle.first_pass_blocks.proofs.Common.{tables_in, names_of, line_end_of}
-use Rattle.first_pass_containers.proofs.OrderSteps.{read_block}
-use Rattle.first_pass_names.specs.TableEntries.{Entries}
+use Rattle.first_pass_blocks.proofs.Common.{tables_in, names_of, line_end_of, Entries, read_block, task_is_no_text, ready_text}
 use Rattle.first_pass_blocks.proofs.FootnoteLabels.{labels_stay}
 use Rattle.first_pass_blocks.proofs.LinkDefinitions.{written_stay}
-use Rattle.first_pass_order.proofs.NamedLemmas.{task_is_no_text}
-use Rattle.first_pass_containers.proofs.Leaves.LeafLemmas.{ready_text}
 use Rattle.first_pass_blocks.proofs.Leaves.TextLemmas.{text_kept, text_unnoted}
 use Rattle.first_pass_blocks.proofs.state.BlockPass.parse_task_text.Goals as goal
 

@@ -1,8 +1,8 @@
-use Rattle.std.proofs.Common.{◌≡◌, ℕ, ◌≤◌, ◌<◌, ◌+◌, ◌-◌, true, length, get_or, sym, ap, ◌∙◌, subst, get_or-drop, length-drop, length-take-le, arith}
-use Rattle.std.proofs.Common.{eqb-true, get_or-take}
+use Rattle.std.proofs.Common.{◌≡◌, ℕ, ◌≤◌, ◌<◌, ◌+◌, ◌-◌, true, length, get_or, sym, ap, ◌∙◌, subst, get_or-drop, length-drop, length-take-le, arith, eqb-true}
+use Rattle.std.proofs.Common.{get_or-take}
 use Rattle.first_pass_grammar.proofs.Common.{prefix_len_passes, line_feed, fence_judge}
+use Rattle.first_pass_leaves.proofs.Common.{is_unmarked, AreWhole}
 use Rattle.first_pass_leaves.specs.declared.raw_line.RawKind.TheVariants.{Code}
-use Rattle.first_pass_leaves.specs.RawBlocks.{is_unmarked, AreWhole}
 use Rattle.first_pass_leaves.proofs.WholeLines.{none_whole}
 use Rattle.first_pass_leaves.proofs.UnmarkedLines.{are_whole}
 use Rattle.first_pass_leaves.proofs.fenced_code.FenceJudgesLines.whole_lines.Goals as goal

@@ -1,5 +1,6 @@
 use Rattle.std.proofs.Common.{◌≡◌, ◌<◌, ℕ, List, ◌∷◌, length, take, slice_set, refl, subst, arith, []}
-use Rattle.first_pass_tokens.specs.Braces.{MathBraces, after_dollar}
+use Rattle.first_pass_tokens.proofs.Common.{MathBraces}
+use Rattle.first_pass_tokens.specs.Braces.{after_dollar}
 use Rattle.first_pass_tokens.proofs.braces.BraceContexts.pass_dollar.Goals as goal
 
 -- the brace contexts after the first dollar sign

@@ -1,5 +1,5 @@
 use Rattle.std.proofs.Common.{arith}
-use Rattle.std.proofs.lemmas.List.{length-reverse}
+use Rattle.first_pass_tree.proofs.Common.{length-reverse}
 use Rattle.first_pass_tree.proofs.Keeps.{appended_by-is}
 use Rattle.first_pass_tree.proofs.SubtreeLemmas.{subtrees-pushed}
 use Rattle.first_pass_tree.proofs.forest.Tree+Item.append.Goals as goal

@@ -1,8 +1,5 @@
 use Rattle.std.proofs.Common.{◌≡◌, ◌+◌, ◌∷◌, ◌++◌, false, ℕ, List, Some, length, reverse, arith, ap, refl, sym, subst, ◌∙◌, []}
-use Rattle.std.proofs.lemmas.List.{length-reverse}
-use Rattle.first_pass_items.specs.declared.item.Item.{Item}
-use Rattle.first_pass_items.specs.declared.item.ItemBody.TheVariants.{Text}
-use Rattle.first_pass_tree.specs.Forest.{Forest, IsForest}
+use Rattle.first_pass_tree.proofs.Common.{Forest, IsForest, Item, length-reverse, Text}
 use Rattle.first_pass_tree.proofs.Keeps.{appended_by-is, below-is}
 use Rattle.first_pass_tree.proofs.SubtreeLemmas.{subtrees-pushed}
 use Rattle.first_pass_tree.proofs.forest.Tree+Item.append_with_text.Goals as goal

@@ -1,6 +1,5 @@
 use Rattle.std.proofs.Common.{arith, ◌≡◌, ◌<◌, ◌^◌, ◌+◌, length}
-use Rattle.std.proofs.lemmas.List.{length-reverse}
-use Rattle.first_pass_tree.specs.Forest.{depths}
+use Rattle.first_pass_tree.proofs.Common.{depths, length-reverse}
 use Rattle.first_pass_tree.proofs.Keeps.{shallow, wrapped-is, current-within}
 use Rattle.first_pass_tree.proofs.SubtreeLemmas.{subtrees-first, subtrees-joined}
 use Rattle.first_pass_tree.proofs.forest.Tree+Item.create_node.Goals as goal

@@ -1,8 +1,5 @@
 use Rattle.std.proofs.Common.{arith, sym, subst, ap, ◌∙◌, ◌≡◌, ◌+◌, ℕ, List, length, reverse, nat_lt, Option, Some, None, if◌then◌else◌}
-use Rattle.std.proofs.lemmas.List.{length-map, length-reverse}
-use Rattle.first_pass_items.specs.declared.item.Item.{Item}
-use Rattle.first_pass_tree.specs.declared.tree_index.TreeIndex.{TreeIndex}
-use Rattle.first_pass_tree.specs.Forest.{Forest, IsForest, open_place, depths, last_before}
+use Rattle.first_pass_tree.proofs.Common.{TreeIndex, Forest, IsForest, open_place, depths, last_before, Item, length-map, length-reverse}
 use Rattle.first_pass_tree.proofs.Cuts.{cut_siblings-is, siblings-by}
 use Rattle.first_pass_tree.proofs.SubtreeLemmas.{subtrees-first, subtrees-joined}
 use Rattle.first_pass_tree.proofs.Depths.{open-last}

@@ -1,7 +1,5 @@
 use Rattle.std.proofs.Common.{arith, sym, subst, ◌≡◌, ◌+◌, ◌<◌, length, get_or}
-use Rattle.std.proofs.lemmas.List.{length-reverse}
-use Rattle.first_pass_items.specs.declared.item.Item.{Item}
-use Rattle.first_pass_tree.specs.Forest.{Forest, IsChild, depths}
+use Rattle.first_pass_tree.proofs.Common.{Forest, IsChild, depths, Item, length-reverse}
 use Rattle.first_pass_tree.proofs.Keeps.{end-known, kept_after-is, run-within}
 use Rattle.first_pass_tree.proofs.SubtreeLemmas.{subtrees-first, subtrees-cut}
 use Rattle.first_pass_tree.proofs.forest.Tree+Item.drop_after.Goals as goal

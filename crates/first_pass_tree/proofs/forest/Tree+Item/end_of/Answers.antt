@@ -1,5 +1,5 @@
 use Rattle.std.proofs.Common.{arith}
-use Rattle.first_pass_tree.specs.Forest.{end_of}
+use Rattle.first_pass_tree.proofs.Common.{end_of}
 use Rattle.first_pass_tree.proofs.Keeps.{current-end, depth_at, end-known}
 use Rattle.first_pass_tree.proofs.forest.Tree+Item.end_of.Goals as goal
 

@@ -1,5 +1,5 @@
 use Rattle.std.proofs.Common.{arith, ◌+◌}
-use Rattle.std.proofs.lemmas.List.{length-reverse}
+use Rattle.first_pass_tree.proofs.Common.{length-reverse}
 use Rattle.first_pass_tree.proofs.Moves.{moved_from-is, moved-by}
 use Rattle.first_pass_tree.proofs.SubtreeLemmas.{subtrees-first, subtrees-changed}
 use Rattle.first_pass_tree.proofs.forest.Tree+Item.move_from.Goals as goal

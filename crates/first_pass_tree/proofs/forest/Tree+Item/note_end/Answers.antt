@@ -1,5 +1,5 @@
 use Rattle.std.proofs.Common.{◌≡◌, ◌∙◌, ap, length, arith}
-use Rattle.first_pass_tree.specs.Forest.{depths}
+use Rattle.first_pass_tree.proofs.Common.{depths}
 use Rattle.first_pass_tree.specs.Subtrees.{ended}
 use Rattle.first_pass_tree.proofs.SubtreeLemmas.{current-subtree, subtrees-ended}
 use Rattle.first_pass_tree.proofs.forest.Tree+Item.note_end.Goals as goal

@@ -1,5 +1,5 @@
 use Rattle.std.proofs.Common.{◌≤◌, length, arith}
-use Rattle.first_pass_tree.specs.Forest.{depths}
+use Rattle.first_pass_tree.proofs.Common.{depths}
 use Rattle.first_pass_tree.proofs.SubtreeLemmas.{current-subtree, fewer-subtree, subtrees-ended, subtrees-up_to}
 use Rattle.first_pass_tree.proofs.forest.Tree+Item.note_end_before.Goals as goal
 

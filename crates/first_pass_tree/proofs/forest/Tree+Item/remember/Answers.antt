@@ -1,5 +1,5 @@
 use Rattle.std.proofs.Common.{◌∙◌, sym, length, arith}
-use Rattle.first_pass_tree.specs.Forest.{depths}
+use Rattle.first_pass_tree.proofs.Common.{depths}
 use Rattle.first_pass_tree.proofs.Keeps.{open-seen}
 use Rattle.first_pass_tree.proofs.SubtreeLemmas.{subtrees-added, subtrees-dropped}
 use Rattle.first_pass_tree.proofs.forest.Tree+Item.remember.Goals as goal

@@ -1,6 +1,5 @@
 use Rattle.std.proofs.Common.{ap, arith, length, ◌+◌, ◌∙◌, reverse, ◌∷◌, []}
-use Rattle.std.proofs.lemmas.List.{reverse-append}
-use Rattle.first_pass_tree.specs.Forest.{depths}
+use Rattle.first_pass_tree.proofs.Common.{depths, reverse-append}
 use Rattle.first_pass_tree.proofs.Keeps.{closed-is, opened-within}
 use Rattle.first_pass_tree.proofs.SubtreeLemmas.{subtrees-first, subtrees-cut}
 use Rattle.first_pass_tree.proofs.forest.Tree+Item.remove_node.Goals as goal

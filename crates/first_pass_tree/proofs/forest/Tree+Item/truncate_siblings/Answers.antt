@@ -1,6 +1,5 @@
 use Rattle.std.proofs.Common.{arith, sym, subst, ◌≡◌, ◌+◌, reverse, drop, true}
-use Rattle.first_pass_items.specs.declared.item.Item.{Item}
-use Rattle.first_pass_tree.specs.Forest.{Forest, IsForest, is_single_before, open_place}
+use Rattle.first_pass_tree.proofs.Common.{Forest, IsForest, is_single_before, open_place, Item}
 use Rattle.first_pass_tree.proofs.Keeps.{spine-small}
 use Rattle.first_pass_tree.proofs.Cuts.{cut_siblings-is, cut_siblings-single}
 use Rattle.first_pass_tree.proofs.forest.Tree+Item.truncate_siblings.Goals as goal

@@ -1,5 +1,5 @@
 use Rattle.std.proofs.Common.{◌+◌, arith}
-use Rattle.std.proofs.lemmas.List.{length-reverse}
+use Rattle.first_pass_tree.proofs.Common.{length-reverse}
 use Rattle.first_pass_tree.proofs.Keeps.{end-known}
 use Rattle.first_pass_tree.proofs.Moves.{rest-moves}
 use Rattle.first_pass_tree.proofs.forest.Tree+Item.truncate_to_parent.Goals as goal
