@@ -126,7 +126,7 @@ enum first_pass_kind {
     FIRST_PASS_NODE_MAYBE_CODE = 27, /**< `number`: how many backquotes; `first`: whether a backslash precedes them */
     FIRST_PASS_NODE_MAYBE_HTML = 28,
     FIRST_PASS_NODE_MAYBE_LINK_OPEN = 29,
-    FIRST_PASS_NODE_MAYBE_LINK_CLOSE = 30, /**< `first`: whether it is active */
+    FIRST_PASS_NODE_MAYBE_LINK_CLOSE = 30, /**< `first`: whether it is active: 1 in each tree of this version */
     FIRST_PASS_NODE_MAYBE_IMAGE = 31,
     FIRST_PASS_NODE_HTML = 32,
     FIRST_PASS_NODE_SYNTHESIZE_TEXT = 33, /**< names the text that stands for the bytes of its range */
@@ -144,7 +144,11 @@ enum first_pass_quote {
     FIRST_PASS_QUOTE_CAUTION = 5
 };
 
-/** A node: 32 bytes, on every machine. Nodes stand in reading order, and the first one is the root. */
+/**
+ * A node: 32 bytes, on every machine. Nodes stand in reading order, and the first one is the root. Siblings never
+ * overlap, and a node lies within its parent. There is one exception: a task list item marker may come before the
+ * start of the paragraph, the heading or the title that it is the first child of.
+ */
 struct first_pass_node {
     uint32_t start; /**< the range in the text: its first byte */
     uint32_t end;   /**< and the byte after its last one */
@@ -226,7 +230,7 @@ struct first_pass_counts {
  * @param[in] definition_room how many it can hold
  * @param[out] names the bytes that the records name
  * @param[in] name_room how many it can hold
- * @param[out] counts at FIRST_PASS_OK how many records were written; at FIRST_PASS_TOO_SMALL how many it takes
+ * @param[out] counts at FIRST_PASS_OK how many records were written; at FIRST_PASS_TOO_SMALL how many there are
  * @return enum first_pass_status. At FIRST_PASS_OK nothing is changed in an array after the records that were written.
  *     At FIRST_PASS_TOO_LONG the arrays may hold anything; at any other status they are unchanged.
  */
@@ -267,11 +271,11 @@ FIRST_PASS_API uint32_t first_pass_read_arrays(const uint8_t *text, size_t lengt
  * @brief Writes the case folding of a label, by which labels match and link definitions are sorted. This call is
  * proved.
  *
- * @param[in] label bytes of UTF-8; not NULL, also if there are none
+ * @param[in] label bytes of UTF-8; not NULL, even if there are none
  * @param[in] length how many there are
- * @param[out] folded the folding; not NULL, also without room
+ * @param[out] folded the folding; not NULL, even without room
  * @param[in] room how many bytes it can hold
- * @param[out] folded_length at FIRST_PASS_OK how many bytes it has; at FIRST_PASS_TOO_SMALL how many it takes
+ * @param[out] folded_length how many bytes the folding has, at FIRST_PASS_OK and at FIRST_PASS_TOO_SMALL
  * @return FIRST_PASS_OK, FIRST_PASS_OUT_OF_MEMORY, FIRST_PASS_NOT_UTF8 or FIRST_PASS_TOO_SMALL. At each but
  *     FIRST_PASS_OK the array is unchanged.
  */
@@ -292,7 +296,7 @@ struct first_pass_range {
  * that crosses lines includes the prefixes of containers. If the node is one of the text's tree, both ends of the
  * range are on character boundaries. Nothing is allocated.
  *
- * @param[in] text the text that the node is of; not NULL, also if `length` is 0
+ * @param[in] text the text that the node is of; not NULL, even if `length` is 0
  * @param[in] length how many bytes it has
  * @param[in] node a node of its tree
  * @param[out] range the range, which may be empty; unchanged if 0 is returned
@@ -322,7 +326,7 @@ FIRST_PASS_API size_t first_pass_place_count(size_t length);
  *
  * The table has the places of offsets at equal distances.
  *
- * @param[in] text bytes of UTF-8; not NULL, also if `length` is 0
+ * @param[in] text bytes of UTF-8; not NULL, even if `length` is 0
  * @param[in] length how many there are
  * @param[out] places an array for first_pass_place_count(length) places
  */
@@ -334,7 +338,7 @@ FIRST_PASS_API void first_pass_places(const char *text, size_t length, struct fi
  * It reads less than 256 bytes, however long a line is. The offset between a carriage return and its newline is in the
  * line that they end. An offset within a character has the UTF-16 column of the character's end.
  *
- * @param[in] text the text that the table was filled for; not NULL, also if `length` is 0
+ * @param[in] text the text that the table was filled for; not NULL, even if `length` is 0
  * @param[in] length how many bytes it has
  * @param[in] places its table
  * @param[in] offset in bytes; `length` is that of the end of the text
@@ -421,7 +425,7 @@ FIRST_PASS_API void first_pass_tree_free(struct first_pass_tree *tree);
  * @param[in] label the bytes between the brackets, without the prefixes of containers; may be NULL if `length` is 0
  * @param[in] length how many there are
  * @param[out] found the definition, which lives as long as the tree; NULL if there is none, or at another status
- * @return FIRST_PASS_OK, also if there is none; FIRST_PASS_NOT_UTF8; or FIRST_PASS_OUT_OF_MEMORY
+ * @return FIRST_PASS_OK, even if there is none; FIRST_PASS_NOT_UTF8; or FIRST_PASS_OUT_OF_MEMORY
  */
 FIRST_PASS_API enum first_pass_status first_pass_find(const struct first_pass_tree *tree, const char *label,
                                                       size_t length, const struct first_pass_definition **found);

@@ -26,8 +26,8 @@
 //!
 //! Ranges are offsets in bytes, on character boundaries, so `&text[node.range()]` never panics. Siblings don't
 //! overlap, and a node lies within its parent. There is one exception: the [`Body::TaskListMarker`] of an item comes
-//! before the paragraph or heading that holds it. NUL is a byte of the text like any other. So is a byte order mark,
-//! unless [`strip_bom`] leaves it out.
+//! before the paragraph, heading or title that holds it. NUL is a byte of the text like any other. So is a byte order
+//! mark, unless [`strip_bom`] leaves it out.
 //!
 //! # The linked library
 //!
