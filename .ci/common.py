@@ -1,10 +1,12 @@
 """What the scripts in Python have in common.
 
-They run isolated, as `python3 -IB`, so each has to put this folder on its path, and leaves no file beside this one.
+They run as `python3 -sEB`: with this folder on their path, but without what the user has there, and they leave no
+file beside this one.
 """
 import argparse
 import pathlib
 import re
+import subprocess
 import sys
 
 TOP = pathlib.Path(__file__).resolve().parent.parent
@@ -53,6 +55,12 @@ def read_cases(top):
             options = int(lines.pop(0).split(" ")[1]) if lines[0].startswith("options ") else 0
             root = next(at for at, line in enumerate(lines) if line.startswith("Root "))
             yield options, from_pictures(line[1:] for line in lines[:root]), from_pictures(lines[root:]) + "\n"
+
+
+def run_program(program, options, text):
+    """What a program writes of a text. Both are bytes."""
+    command = [program, str(options)]
+    return subprocess.run(command, input=text, stdout=subprocess.PIPE, timeout=60, check=True).stdout
 
 
 def run_check(check, description, word="TOP"):

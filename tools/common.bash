@@ -1,22 +1,18 @@
 # What the scripts of this repository have in common. A script sets `name`, which its messages begin with, and `top`,
 # the folder of the checkout, and reads this file. The functions are for bash with `set -u`.
 # shellcheck shell=bash
-# shellcheck disable=SC2154  # the variables of the script
-# shellcheck disable=SC2034  # and those that are for it
+# shellcheck disable=SC2154,SC2034  # the variables of the script, and those that are for it
 
 # What would make `cd` and git look elsewhere is left out, and TMPDIR is the same in each folder.
 unset CDPATH GIT_DIR GIT_WORK_TREE GIT_INDEX_FILE GIT_COMMON_DIR
 [[ ${TMPDIR-/} == /* ]] || TMPDIR=$PWD/$TMPDIR
 
-# A text for a message: as it is, or quoted as bash writes it if a character of it can't be printed.
-shown() {
-    local LC_ALL=C.UTF-8 text=$1
+# Writes a line to standard error: as it is, or quoted as bash writes it if a character of it can't be printed.
+say() {
+    local LC_ALL=C.UTF-8 text="$name: $*"
     [[ $text != *[![:print:]]* ]] || text=${text@Q}
-    printf '%s\n' "$text"
+    printf '%s\n' "$text" >&2
 }
-
-# Writes a line to standard error.
-say() { shown "$name: $*" >&2; }
 
 fail() {
     say "$@"
@@ -31,18 +27,12 @@ leave_nothing() {
     trap 'exit 143' TERM
 }
 
-# Makes `room`, a folder for temporary files that something can be written to, in TMPDIR if it can be used.
+# Makes `room`, a folder for temporary files.
 make_room() {
     leave_nothing
     room=$(mktemp -d "${TMPDIR:-/tmp}/first_pass.XXXXXX" 2> /dev/null) ||
-        room=$(mktemp -d /tmp/first_pass.XXXXXX 2> /dev/null) ||
         fail "no folder for temporary files can be made in ${TMPDIR:-/tmp}: TMPDIR names another"
-    { head -c 1000000 /dev/zero 2> /dev/null > "$room/first" && rm "$room/first"; } ||
-        fail "nothing can be written to ${room%/*}; is the disk full? TMPDIR names another folder"
 }
-
-# Stops if there is no folder for temporary files that can be written to.
-check_temporary() { (make_room) || exit; }
 
 # Runs git in this checkout. It fails if `top` is no checkout, but a folder in another.
 git_here() {
@@ -59,59 +49,41 @@ need() {
     done
 }
 
-# Sets `uses` to what each crate of crates.txt stands on, and `programs` to those with a main file, lowest first.
-read_crates() {
-    local line crate
-    programs=()
-    declare -gA uses=()
-    while read -r line; do
-        line=${line%%#*}
-        read -r crate _ <<< "${line%%:*}"
-        [ -n "$crate" ] || continue
-        uses[$crate]=${line#*:}
-        [ ! -e "$top/crates/$crate/src/main.rt" ] || programs+=("$crate")
-    done < "$top/crates.txt" || fail "crates.txt can't be read"
-}
-
-# The path of something built: in the folder FIRST_PASS_PROGRAMS, or in this checkout.
-built_path() {
-    local file=$1 crate=$1 path
-    [ "$file" != first_pass ] || crate=first_pass_command
-    [[ $file != lib*.a ]] || crate=${file:3:-2}
-    for path in "${FIRST_PASS_PROGRAMS-$top/crates}"/{"$file","$crate/out/$file","$crate/out/$crate"}; do
-        [ -f "$path" ] && echo "$path" && return
-    done
-    fail "$file is not in ${FIRST_PASS_PROGRAMS-$top/crates}: build it first"
+# Sets `programs` to the crates with a main file.
+read_programs() {
+    programs=("$top"/crates/*/src/main.rt)
+    programs=("${programs[@]%/src/main.rt}")
+    programs=("${programs[@]##*/}")
 }
 
 # Reads the word PREFIX: sets `prefix`, the folder to install to, below DESTDIR if that is set. Stops if it can't be
 # one, or if nothing can be written to what there is of its path.
 read_prefix() {
-    local word there
+    local there
     [ -n "$1" ] || fail 'the folder to install to is needed'
-    for word in "$1" "${DESTDIR-/}"; do
-        case $word in
-            *$'\n'* | -*) fail "$word is no folder to install to" ;;
-        esac
-    done
     prefix=${DESTDIR:+$DESTDIR/}$1
+    case $prefix in
+        *$'\n'* | -*) fail "$prefix is no folder to install to" ;;
+    esac
     there=$prefix
     until [ -e "$there" ] || [ -L "$there" ]; do
-        case $there in
-            *[!/]*/*) there=${there%/*} ;;
-            /*) there=/ ;;
-            *) there=. ;;
-        esac
+        there=$(dirname "$there")
     done
     [ -d "$there" ] || fail "$prefix can't be written: $there is no folder"
     make_stage "$there"
-    rmdir -- "$stage"
+    rmdir "$stage"
 }
 
 # Runs a command that writes to `prefix` or `stage`.
 write() {
     local said
     said=$("$@" 2>&1) || fail "$prefix can't be written: ${said##*: }"
+}
+
+# Runs a step of the work, and stops with its last line if it fails.
+step() {
+    local said
+    said=$("$@" 2>&1 < /dev/null) || fail "${1##*/} failed: ${said##*$'\n'}"
 }
 
 # Makes `stage`, a folder in this one that is removed at the end.
@@ -124,7 +96,7 @@ make_stage() {
 # Makes the folder `prefix`, keeps others from installing there meanwhile, and makes `stage` in it, a folder in which
 # all is written before it is put in its place.
 begin_install() {
-    write install -d -m 755 -- "$prefix"
+    write mkdir -p -- "$prefix"
     { exec {prefix_lock}< "$prefix" && flock "$prefix_lock"; } 2> /dev/null || fail "$prefix can't be locked"
     make_stage "$prefix"
 }
@@ -145,16 +117,14 @@ finish_install() {
     local path folders files
     mapfile -d '' folders < <(cd "$stage" && find . -type d -print0)
     mapfile -d '' files < <(cd "$stage" && find . ! -type d -print0)
-    for path in "${folders[@]}"; do
-        [ -d "$prefix/$path" ] || { [ ! -e "$prefix/$path" ] && [ ! -L "$prefix/$path" ]; } ||
+    for path in "${folders[@]/#/"$prefix/"}"; do
+        [ -d "$path" ] || { [ ! -e "$path" ] && [ ! -L "$path" ]; } ||
             fail "$prefix can't be written: $path is no folder there"
     done
-    for path in "${files[@]}"; do
-        [ ! -d "$prefix/$path" ] || [ -L "$prefix/$path" ] || fail "$prefix can't be written: $path is a folder there"
+    for path in "${files[@]/#/"$prefix/"}"; do
+        [ ! -d "$path" ] || [ -L "$path" ] || fail "$prefix can't be written: $path is a folder there"
     done
-    for path in "${folders[@]}"; do
-        [ -d "$prefix/$path" ] || write install -d -m 755 -- "$prefix/$path"
-    done
+    write mkdir -p -- "${folders[@]/#/"$prefix/"}"
     trap '' HUP INT TERM
     for path in "${files[@]}"; do
         write mv -fT -- "$stage/$path" "$prefix/$path"

@@ -9,6 +9,8 @@ from pathlib import Path
 
 TOP = Path(__file__).resolve().parents[3]
 ALL_OPTIONS = 65534
+# Scripts there share a module.
+sys.path.append(str(TOP / ".ci"))
 
 MARKS = r"""
 a word | || ] [ ![ [a] [A]: [^n]: [^n] (/u <b> </b> <!-- --> <http://x.y> &amp; &copy; &nope; \ \* * ** _ ~~ ^ ` ``
@@ -37,6 +39,7 @@ LINES += [
     "\n[^n]: ",
     "\n[^M]: ",
 ]
+LINES += [">> ", "- - ", "10) ", "    ", "``` rs\n", "\n<div>\n", "\n<script>\n", "</script>\n", "[\u00df]: f\n"]
 MOST_PARTS = 50
 
 
