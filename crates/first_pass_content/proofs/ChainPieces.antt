@@ -98,16 +98,16 @@ module _ (text : List ℕ) (from : ℕ) (x : Item) (after : from ≤ x.start) (o
       (record { after = w.after; order = omega (arith, w.before, order); before = le_refl x.«end»; starts = w.boundary; ends = ends }))
       (piece_none text x.«end» x.«end» (le_refl x.«end»))
 
-  token_piece : FollowsBackslash text from x → IsPiece text from x.«end» (token_content text x)
+  pub token_piece : FollowsBackslash text from x → IsPiece text from x.«end» (token_content text x)
   token_piece slash =
       token_by (is_break x.body) (is_task_marker x.body) (line_end_of text x) (whole_start x) (line_end_at text x order ends)
       (whole_by (is_escaped x.body) text from x after starts slash)
 
 -- the gap after a token, up to where the chain goes on
-record GoesOn (text : List ℕ) (at to : ℕ) (c : List ContentByte) (tokens : List (ℕ × Item)) : Type 0 where
-  mid : ℕ
-  piece : IsPiece text at mid c
-  chain : IsChainIn text mid to tokens
+pub record GoesOn (text : List ℕ) (at to : ℕ) (c : List ContentByte) (tokens : List (ℕ × Item)) : Type 0 where
+  pub mid : ℕ
+  pub piece : IsPiece text at mid c
+  pub chain : IsChainIn text mid to tokens
 
 -- from the start of a break on
 module _ (text : List ℕ) (at to : ℕ) (y : ℕ × Item) (ys : List (ℕ × Item)) (is : IsChainIn text at to (y ∷ ys)) (at_boundary : IsCharBoundary text at) where
@@ -151,7 +151,7 @@ module _ (text : List ℕ) (at to : ℕ) (y : ℕ × Item) (ys : List (ℕ × It
       sym (ap (λ l. placed y.1.start l) (between_none text y.1.start)) in
       record { mid = at; piece = subst (IsPiece text at at) none (piece_none text at at (le_refl at)); chain = is }
 
-gap_piece : (text : List ℕ) (to : ℕ) (x : Item) (tokens : List (ℕ × Item)) → IsCharBoundary text x.«end» → IsChainIn text x.«end» to tokens
+pub gap_piece : (text : List ℕ) (to : ℕ) (x : Item) (tokens : List (ℕ × Item)) → IsCharBoundary text x.«end» → IsChainIn text x.«end» to tokens
     → GoesOn text x.«end» to (gap_content text x tokens) tokens
 gap_piece text to x [] ends is = record { mid = x.«end»; piece = piece_none text x.«end» x.«end» (le_refl x.«end»); chain = is }
 gap_piece text to x (y ∷ ys) ends is =

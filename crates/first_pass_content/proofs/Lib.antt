@@ -5,3 +5,4 @@ pub mod ContentSteps
 pub mod Pieces
 pub mod ChainPieces
 pub mod WholeRanges
+pub mod WholeTokens

@@ -1,7 +1,10 @@
 -- A chain in order, as the pass leaves it, and the order of the ranges of a content.
-use Rattle.std.specs.Prelude.{◌≡◌, ℕ, ◌-◌, ◌<◌, ◌≤◌, true, List, [], ◌∷◌, slice_index, IsCharBoundary}
+use Rattle.std.specs.Prelude.{◌≡◌, ℕ, ◌-◌, ◌<◌, ◌≤◌, Bool, true, false, List, [], ◌∷◌, nat_lt, slice_index, take, IsCharBoundary, if◌then◌else◌}
+use Rattle.std.specs.List.{prefix_len}
 use Rattle.first_pass_items.specs.Bytes.{backslash}
 use Rattle.first_pass_items.specs.declared.item.Item.{Item}
+use Rattle.first_pass_items.specs.declared.item.ItemBody.{ItemBody}
+use Rattle.first_pass_items.specs.declared.item.ItemBody.TheVariants.{Paragraph, TightParagraph, Heading, TableCell, DefinitionListTitle}
 use Rattle.first_pass_reports.specs.Pairs.{is_escaped}
 use Rattle.first_pass_content.specs.Content.{ContentByte}
 
@@ -22,3 +25,25 @@ IsChainIn text from to (x ∷ xs) =
 abbrev pub AreRangesIn : ℕ → ℕ → List ContentByte → Type 0
 AreRangesIn from to [] = from ≤ to
 AreRangesIn from to (b ∷ c) = (from ≤ b.start) × (b.start ≤ b.«end») × AreRangesIn b.«end» to c
+
+-- the tokens of a chain are in order (this project)
+abbrev pub IsChain : List ℕ → List (ℕ × Item) → Type 0
+IsChain text tokens = (from : ℕ) × (to : ℕ) × IsChainIn text from to tokens
+
+-- a block whose nodes are a chain of tokens (CommonMark 4.8, 4.2, 4.3; GFM 4.10; for titles this project)
+abbrev pub has_chain : ItemBody → Bool
+has_chain Paragraph = true
+has_chain TightParagraph = true
+has_chain (Heading level index) = true
+has_chain TableCell = true
+has_chain DefinitionListTitle = true
+has_chain _ = false
+
+-- the chain of a node, given the nodes after it: those that are deeper, if it is such a block
+abbrev pub chain_after : ℕ × Item → List (ℕ × Item) → List (ℕ × Item)
+chain_after n nodes = if has_chain n.1.body then take (prefix_len (λ (m : ℕ × Item). nat_lt n.0 m.0) nodes) nodes else []
+
+-- the chain of each of these nodes, which are in reading order, is in order (this project)
+abbrev pub AreChains : List ℕ → List (ℕ × Item) → Type 0
+AreChains text [] = Unit {0}
+AreChains text (n ∷ nodes) = IsChain text (chain_after n nodes) × AreChains text nodes

@@ -39,7 +39,7 @@ abbrev pub AreRuns : ℕ → List Run → ℕ → Type 0
 AreRuns at [] past = at ≡ past
 AreRuns at (r ∷ runs) past = (r.place ≡ at) × (r.place < r.past) × Fits r × AreRuns r.past runs past
 
--- The runs before the last follow one another up to it, and it goes on up to the end of the bytes. It may be empty.
+-- The runs before the last follow one another up to it, and it extends to the end of the bytes. It may be empty.
 pub record AreAllRuns (bytes : List ℕ) (runs : List Run) (last : Run) : Type 0 where
   pub before : AreRuns 0 runs last.place
   pub order : last.place ≤ last.past

@@ -1,5 +1,5 @@
 -- The tokens of a chain, and their places: offsets into the content of the chain.
-use Rattle.std.specs.Prelude.{ℕ, ◌+◌, ◌&&◌, List, [], ◌∷◌, length, nat_lt, if◌then◌else◌}
+use Rattle.std.specs.Prelude.{ℕ, ◌+◌, ◌&&◌, List, [], ◌∷◌, length, nat_lt, if◌then◌else◌, IsCharBoundary}
 use Rattle.first_pass_items.specs.declared.item.Item.{Item}
 use Rattle.first_pass_reports.specs.Pairs.{whole_start}
 use Rattle.first_pass_content.specs.Content.{gap_content, token_content}
@@ -21,3 +21,7 @@ placed_tokens text place [] = []
 placed_tokens text place (token ∷ tokens) =
     let past = place + length (token_content text token.1) in
     token_between token.1 place past ∷ placed_tokens text (past + length (gap_content text token.1 tokens)) tokens
+
+-- a token begins and ends between characters of the content
+abbrev pub IsWholeToken : List ℕ → PlacedToken → Type 0
+IsWholeToken bytes t = IsCharBoundary bytes t.start × IsCharBoundary bytes t.«end»

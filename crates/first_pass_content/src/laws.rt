@@ -2,8 +2,9 @@
 
 ghost use Rattle.first_pass_content.specs.Chains.{AreRangesIn, IsChainIn};
 ghost use Rattle.first_pass_content.specs.Content.{bytes_of, content, range_in};
+ghost use Rattle.first_pass_content.specs.Tokens.{IsWholeToken, placed_tokens};
 ghost use Rattle.first_pass_items.specs.declared.item.Item.{Item};
-ghost use Rattle.std.specs.Prelude.{ℕ, ◌≤◌, IsCharBoundary, IsUtf8, List};
+ghost use Rattle.std.specs.Prelude.{ℕ, ◌≤◌, All, IsCharBoundary, IsUtf8, List};
 
 /// The ranges of the bytes of a content are in order between the offsets that its tokens are between.
 pub fn bytes_are_in_order()
@@ -25,4 +26,10 @@ pub fn parts_have_whole_characters()
 pub fn content_is_utf8()
     ensures { (text : List ℕ) (tokens : List (ℕ × Item)) (from to : ℕ) → IsUtf8 text → IsChainIn text from to tokens
         → IsUtf8 (bytes_of (content text tokens)) }
+{}
+
+/// Each token of a chain of a text in UTF-8 begins and ends at characters of the content.
+pub fn tokens_have_whole_characters()
+    ensures { (text : List ℕ) (tokens : List (ℕ × Item)) (from to : ℕ) → IsUtf8 text → IsChainIn text from to tokens
+        → All (IsWholeToken (bytes_of (content text tokens))) (placed_tokens text 0 tokens) }
 {}
