@@ -1,75 +1,12 @@
 //! Open tags and closing tags, which may hold newlines. CommonMark 6.6.
 
 ghost use Rattle.first_pass_atoms.specs.TagLengths as lengths;
-ghost use Rattle.first_pass_html.specs.TagLengths as words;
-ghost use Rattle.first_pass_html.specs.Tags as tags;
 ghost use Rattle.std.specs.List.{prefix_len};
 ghost use Rattle.std.specs.Prelude.{◌≡◌, ◌<◌, ◌≤◌, ◌+◌, length, IfSome};
 
 use crate::blanks::scan_blanks;
+use first_pass_html::tags::{scan_attribute_name, scan_close, scan_tag_name, unquoted_bytes_len};
 use first_pass_lines::places::rest_of;
-
-// The number of leading bytes that can continue a tag name after its first letter.
-fn tag_bytes_len(bytes: &[u8]) -> usize
-    ensures value { result ≡ prefix_len tags.is_tag_byte bytes.now }
-    ensures within { result ≤ length bytes.now }
-{
-    bytes
-        .iter()
-        .take_while(|b| b.is_ascii_alphanumeric() || **b == b'-')
-        .count()
-}
-
-// The length of the tag name at the start of the bytes, if there is one.
-fn scan_tag_name(bytes: &[u8]) -> Option<usize>
-    ensures value { result ≡ words.tag_name_len bytes.now }
-    ensures within { IfSome result (λ n. n ≤ length bytes.now) }
-{
-    match bytes {
-        [first, others @ ..] if first.is_ascii_alphabetic() => Some(1 + tag_bytes_len(others)),
-        _ => None,
-    }
-}
-
-// The number of leading bytes that can continue an attribute name after its first byte.
-fn attribute_bytes_len(bytes: &[u8]) -> usize
-    ensures value { result ≡ prefix_len tags.is_attribute_byte bytes.now }
-    ensures within { result ≤ length bytes.now }
-{
-    bytes
-        .iter()
-        .take_while(|b| b.is_ascii_alphanumeric() || matches!(**b, b'_' | b'.' | b':' | b'-'))
-        .count()
-}
-
-// The length of the attribute name at the start of the bytes, if there is one.
-fn scan_attribute_name(bytes: &[u8]) -> Option<usize>
-    ensures value { result ≡ words.attribute_name_len bytes.now }
-    ensures within { IfSome result (λ n. n ≤ length bytes.now) }
-{
-    match bytes {
-        [first, others @ ..] if first.is_ascii_alphabetic() || *first == b'_' || *first == b':' => {
-            Some(1 + attribute_bytes_len(others))
-        }
-        _ => None,
-    }
-}
-
-// The number of leading bytes that an unquoted value can have.
-fn unquoted_bytes_len(bytes: &[u8]) -> usize
-    ensures value { result ≡ prefix_len tags.is_unquoted bytes.now }
-    ensures within { result ≤ length bytes.now }
-{
-    bytes
-        .iter()
-        .take_while(|b| {
-            !matches!(
-                **b,
-                b' ' | b'\t' | b'\n' | b'\r' | b'"' | b'\'' | b'=' | b'<' | b'>' | b'`'
-            )
-        })
-        .count()
-}
 
 // The number of bytes before the quote.
 fn quoted_bytes_len(quote: u8, bytes: &[u8]) -> usize
@@ -176,18 +113,6 @@ fn scan_attributes(bytes: &[u8]) -> usize
         at += len;
     }
     at
-}
-
-// The length of `>` or `/>` at the start of the bytes, if there is one.
-fn scan_close(bytes: &[u8]) -> Option<usize>
-    ensures value { result ≡ words.close_len bytes.now }
-    ensures within { IfSome result (λ n. n ≤ length bytes.now) }
-{
-    match bytes {
-        [b'>', ..] => Some(1),
-        [b'/', b'>', ..] => Some(2),
-        _ => None,
-    }
 }
 
 // The length of the end of an open tag at the start of the bytes: blanks, an optional slash, and `>`.

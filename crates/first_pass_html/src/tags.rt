@@ -21,8 +21,8 @@ fn tag_bytes_len(bytes: &[u8]) -> usize
         .count()
 }
 
-// The length of the tag name at the start of the bytes, if there is one.
-fn scan_tag_name(bytes: &[u8]) -> Option<usize>
+/// Returns the length of the tag name at the start of the bytes, or `None` if there is none (CommonMark 6.6).
+pub fn scan_tag_name(bytes: &[u8]) -> Option<usize>
     ensures value { result ≡ lengths.tag_name_len bytes.now }
     ensures within { IfSome result (λ n. n ≤ length bytes.now) }
 {
@@ -43,8 +43,8 @@ fn attribute_bytes_len(bytes: &[u8]) -> usize
         .count()
 }
 
-// The length of the attribute name at the start of the bytes, if there is one.
-fn scan_attribute_name(bytes: &[u8]) -> Option<usize>
+/// Returns the length of the attribute name at the start of the bytes, or `None` if there is none (CommonMark 6.6).
+pub fn scan_attribute_name(bytes: &[u8]) -> Option<usize>
     ensures value { result ≡ lengths.attribute_name_len bytes.now }
     ensures within { IfSome result (λ n. n ≤ length bytes.now) }
 {
@@ -56,8 +56,8 @@ fn scan_attribute_name(bytes: &[u8]) -> Option<usize>
     }
 }
 
-// The number of leading bytes that an unquoted value can have.
-fn unquoted_bytes_len(bytes: &[u8]) -> usize
+/// Returns the number of leading bytes that an unquoted attribute value can have (CommonMark 6.6).
+pub fn unquoted_bytes_len(bytes: &[u8]) -> usize
     ensures value { result ≡ prefix_len tags.is_unquoted bytes.now }
     ensures within { result ≤ length bytes.now }
 {
@@ -170,8 +170,8 @@ fn scan_attribute(bytes: &[u8]) -> Option<usize>
     }
 }
 
-// The length of `>` or `/>` at the start of the bytes, if there is one.
-fn scan_close(bytes: &[u8]) -> Option<usize>
+/// Returns the length of `>` or `/>` at the start of the bytes, or `None` if neither is there (CommonMark 6.6).
+pub fn scan_close(bytes: &[u8]) -> Option<usize>
     ensures value { result ≡ lengths.close_len bytes.now }
     ensures within { IfSome result (λ n. n ≤ length bytes.now) }
 {
