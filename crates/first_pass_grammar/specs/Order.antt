@@ -94,7 +94,7 @@ beyond InItem = InItem
 beyond (InText before) = Elsewhere
 beyond (InFirst before) = Elsewhere
 
--- the task list item marker that is first in its paragraph or heading
+-- the task list item marker that is first in its paragraph, heading or title of a definition list
 abbrev pub IsLead : List ℕ → Within → ℕ → Ranged → Type 0
 IsLead text Elsewhere from x = ⊥
 IsLead text InItem from x = ⊥
@@ -102,8 +102,8 @@ IsLead text (InFirst before) from x = ⊥
 IsLead text (InText before) from x = (x.marker ≡ true) × IsBetween text before from x
 
 -- The siblings lie between two offsets in order, and the nodes below each sibling lie within it. Only a task list item
--- marker that is first in a paragraph or heading may start before that block. It then starts in the list item around
--- the block, where the block itself might start (GFM 5.3, and this project).
+-- marker that is first in a paragraph, heading or title of a definition list may start before that block. It then
+-- starts in the list item around the block, where the block itself might start (GFM 5.3, and this project).
 unfoldable pub Fits : List ℕ → Within → ℕ → ℕ → Siblings → Type 0
 Fits text within from to Empty = from ≤ to
 Fits text within from to (Node x kids next) =

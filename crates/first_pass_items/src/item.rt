@@ -95,7 +95,7 @@ pub enum ItemBody {
 
     // Blocks.
     Paragraph,
-    /// A paragraph directly in an item of a tight list.
+    /// A paragraph directly in an item or a definition of a tight list.
     TightParagraph,
     Rule,
     Heading(HeadingLevel, Option<HeadingIndex>),

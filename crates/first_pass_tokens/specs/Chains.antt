@@ -23,7 +23,7 @@ run_tokens at (suc n) opens closes = token at 1 (MaybeEmphasis (suc n) opens clo
 abbrev pub touches : Item → Item → Bool
 touches x y = is_text y.body && (is_text x.body && (x.«end» == y.start))
 
--- no token of the chain touches the one before it (this project)
+-- no text of the chain touches a text before it (this project)
 abbrev pub AreApart : List Item → Type 0
 AreApart [] = Unit
 AreApart (x ∷ []) = Unit

@@ -42,7 +42,7 @@ pub fn content_has_no_line_end()
         → (k : ℕ) → s.start ≤ k → k < to.at → is_line_end (slice_index s.text k) ≡ false }
 {}
 
-/// No token of a line or a cell touches the one before it: texts that touch are one text.
+/// No two texts of a line or a cell touch: texts that touch are one text.
 pub fn line_is_joined()
     ensures line { (texts : List CowStr) (s : Inline) (tokens : List Item) (answer : ℕ × Option Item)
         (after : MathBraces) → AreLineTokens texts s tokens answer after

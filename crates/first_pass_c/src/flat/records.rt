@@ -21,8 +21,8 @@ pub struct FlatNode {
     /// The kind, in the order of `ItemBody`: from 0 for the root to 35 for a task list item marker.
     pub kind: u8,
     /// A heading's level; the kind that a tag gives a block quote, 1 to 5; the kind of a metadata block, 0 or 1;
-    /// whether a list is tight, a text escaped, a hard break made by a backslash, backquotes escaped, a `]` active, a
-    /// task checked; whether a delimiter, a dollar sign or a quotation mark can open. Otherwise 0.
+    /// whether a list is tight, a text escaped, a hard break made by a backslash, backquotes escaped, a `]` active
+    /// (always), a task checked; whether a delimiter, a dollar sign or a quotation mark can open. Otherwise 0.
     pub first: u8,
     /// Whether a heading has an attribute block; the byte of a list's markers or of a quotation mark; whether a
     /// delimiter or a dollar sign can close. Otherwise 0.
