@@ -18,7 +18,7 @@ use Rattle.first_pass_entities.specs.Entities.{entity_at}
 use Rattle.first_pass_tokens.proofs.ChainLemmas.{add_text-some, add_token-by}
 use Rattle.first_pass_tokens.proofs.InOrder.{AreInOrder}
 use Rattle.first_pass_tokens.proofs.LineLemmas.{piece_of}
-use Rattle.first_pass_tokens.proofs.Escapes.{EscapesStand}
+use Rattle.first_pass_tokens.proofs.Escapes.{EscapesStand, EndsBy, ends_later, ends_in_order, ends_add}
 use Rattle.first_pass_tree.specs.Forest.{is_escaped as is_text_escaped}
 use Rattle.first_pass_tokens.proofs.PieceFacts.{IsPieceAt}
 use Rattle.first_pass_reports.specs.Pairs.{is_escaped}
@@ -108,23 +108,6 @@ made_drops texts b found p drops is = grind (arith, false≢true)
 abbrev pub FollowBackslashes : List ℕ → ℕ → List Item → Type 0
 FollowBackslashes text from [] = Unit {0}
 FollowBackslashes text from (x ∷ xs) = FollowsBackslash text from x × FollowBackslashes text x.«end» xs
-
--- the last token of a chain from an offset on ends at another offset or before it
-abbrev pub EndsBy : ℕ → ℕ → List Item → Type 0
-EndsBy from at [] = from ≤ at
-EndsBy from at (x ∷ xs) = EndsBy x.«end» at xs
-
-ends_later : (from at later : ℕ) (chain : List Item) → EndsBy from at chain → at ≤ later → EndsBy from later chain
-ends_later from at later [] h more = omega arith
-ends_later from at later (x ∷ xs) h more = ends_later x.«end» at later xs h more
-
-pub ends_in_order : (text : List ℕ) (from to : ℕ) (chain : List Item) → AreInOrder text from to chain → EndsBy from to chain
-ends_in_order text from to [] h = h
-ends_in_order text from to (x ∷ xs) h = ends_in_order text x.«end» to xs h.4
-
-ends_add : (from at : ℕ) (chain : List Item) (y : Item) → y.«end» ≤ at → EndsBy from at (add_token chain y)
-ends_add from at chain y within =
-    add_token-by (λ xs ys. (low : ℕ) → EndsBy low at ys) y (λ low. within) (λ x t first second place low. within) (λ x xs ys add low. add x.«end») chain from
 
 -- a token is appended
 follow_add : (text : List ℕ) (from mid : ℕ) (chain : List Item) (y : Item) → EndsBy from mid chain → FollowBackslashes text from chain

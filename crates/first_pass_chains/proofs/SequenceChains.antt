@@ -1,12 +1,12 @@
 -- The chains of each leaf block in a derived sequence are in order: wherever a block begins is a place of the text, and
 -- the lines after it follow its line.
 use Rattle.std.proofs.Common.{◌≡◌, ℕ, ◌+◌, ◌-◌, ◌≤◌, Bool, true, false, List, [], ◌∷◌, length, drop, slice_index, Option, Some, None, MatchOption}
-use Rattle.std.proofs.Common.{IfSome, IsUtf8, IsCharBoundary, refl, sym, ap, subst, ◌∙◌, arith, if◌then◌else◌, option_map, option_and_then, get_or-drop}
+use Rattle.std.proofs.Common.{IfSome, IsUtf8, IsCharBoundary, refl, sym, ap, subst, ◌∙◌, arith, if◌then◌else◌, option_map, get_or-drop}
 use Rattle.std.proofs.Common.{length-drop}
 use Rattle.first_pass_grammar.proofs.Common.{cond_both, gfm_footnotes, Item, Place, place_at, Rest, offset, indent, line_end, IsPlaceOf}
-use Rattle.first_pass_grammar.proofs.Common.{is_task_marker, line_len, first_byte, colon, is_white, prefix_len, Head, opened, Skeleton}
-use Rattle.first_pass_grammar.proofs.Common.{Nil, Then, Node, Context, at_rest, front, taken, after, footnote_head_at, footnote_at, label_at}
-use Rattle.first_pass_grammar.proofs.Common.{begins_footnote_mark, head_after, footnote_head, begins, lines_from, lines_at, level, nothing, unindented}
+use Rattle.first_pass_grammar.proofs.Common.{is_task_marker, line_len, colon, is_white, prefix_len, Head, opened, Skeleton}
+use Rattle.first_pass_grammar.proofs.Common.{Nil, Then, Node, Context, at_rest, front, taken, after, footnote_head_at, footnote_at}
+use Rattle.first_pass_grammar.proofs.Common.{begins, lines_from, lines_at, level, nothing, unindented}
 use Rattle.first_pass_grammar.proofs.Common.{Document, Tables, Derives}
 use Rattle.first_pass_grammar.proofs.Common.{around, Start, start_at, task_after, tag_after, Continues, Line, Blanks, AtPlace, Anything, OnlyALeaf, TextOf}
 use Rattle.first_pass_grammar.proofs.Common.{OnlyMark}
@@ -36,7 +36,7 @@ use Rattle.first_pass_open.proofs.PlaceLemmas.{after_keeps, all_keep, definition
 use Rattle.first_pass_ready.proofs.FootnoteLemmas.{after_note}
 use Rattle.first_pass_containers.specs.FootnoteHeads.{head_read, head_end, blank_before_more}
 use Rattle.first_pass_containers.proofs.OrderSteps.{mark_stands, stands_between}
-use Rattle.first_pass_containers.proofs.Openings.HeadLemmas.{ContinuesAt, continues, head_after_is}
+use Rattle.first_pass_containers.proofs.Openings.HeadLemmas.{ContinuesAt, continues, head_after_is, head_ends}
 use Rattle.first_pass_content.specs.Chains.{AreChains, has_chain}
 use Rattle.first_pass_chains.proofs.NodeChains.{chains_after}
 use Rattle.first_pass_chains.proofs.RowChains.{IsChained, derived_chains}
@@ -79,24 +79,6 @@ marker_some : (text : List ℕ) (from to : ℕ) (marker : Option Item) → Marke
     → IfSome marker (λ m. MarkerBetween text from to (Some m))
 marker_some text from to None h = tt
 marker_some text from to (Some m) h = h
-
--- the head of a footnote definition ends with its colon
-colon_by : (bs : List ℕ) (n : ℕ) (label : List ℕ) (head : ℕ × List ℕ) (t : Bool) → begins colon (drop n (drop 2 bs)) ≡ t
-    → (if t then Some (n + 3, label) else None) ≡ Some head → (3 ≤ head.0) × (head.0 ≤ length bs) × (slice_index bs (head.0 - 1) ≡ colon)
-colon_by bs n label head false h is = cc
-colon_by bs n label head true h is = grind (arith, first_byte)
-
-head_by : (bs : List ℕ) (label : Option (ℕ × List ℕ)) (head : ℕ × List ℕ) (t : Bool)
-    → (if t then option_and_then (head_after (drop 2 bs)) label else None) ≡ Some head
-    → (3 ≤ head.0) × (head.0 ≤ length bs) × (slice_index bs (head.0 - 1) ≡ colon)
-head_by bs label head false is = cc
-head_by bs None head true is = cc
-head_by bs (Some label) head true is = colon_by bs label.0 label.1 head (begins colon (drop label.0 (drop 2 bs))) refl is
-
-head_ends : (prefix : List ℕ → Option ℕ) (nested : Bool) (bs : List ℕ) (head : ℕ × List ℕ) → footnote_head prefix nested bs ≡ Some head
-    → (3 ≤ head.0) × (head.0 ≤ length bs) × (slice_index bs (head.0 - 1) ≡ colon)
-unfolding footnote_head
-head_ends prefix nested bs head is = head_by bs (label_at prefix nested (drop 2 bs)) head (begins_footnote_mark bs) is
 
 -- a head is where its prefix says
 head_there : (around : Context) (p : Place) (head : ℕ × List ℕ) → footnote_head_at around p ≡ Some head

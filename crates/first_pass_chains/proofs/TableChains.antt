@@ -1,16 +1,17 @@
 -- The chains of the cells of a table are in order.
-use Rattle.std.proofs.Common.{◌≡◌, ℕ, zero, suc, ◌+◌, ◌==◌, Bool, true, false, List, [], ◌∷◌, ◌++◌, length, map, take, drop, replicate, slice_index}
-use Rattle.std.proofs.Common.{IsUtf8, IsCharBoundary, refl, sym, ap, subst, ◌∙◌, arith, eqb-true}
+use Rattle.std.proofs.Common.{◌≡◌, ℕ, zero, suc, ◌+◌, ◌==◌, false, List, [], ◌∷◌, ◌++◌, length, map, take, drop, replicate, slice_index}
+use Rattle.std.proofs.Common.{IsUtf8, IsCharBoundary, refl, sym, ap, subst, ◌∙◌, arith}
 use Rattle.first_pass_grammar.proofs.Common.{Item, ItemBody, Alignment, Table, TableHead, TableRow, TableCell, pipe, Place, offset, IsPlaceOf, lines_from}
 use Rattle.first_pass_grammar.proofs.Common.{MathBraces, no_braces, Spot, spot, Document, around, cell_start, cell_text, cell_block, AreCells, inserted}
-use Rattle.first_pass_grammar.proofs.Common.{row_cells, row_block, Taken, IsTable, IsCharBoundary-after_ascii, line_end_boundary}
+use Rattle.first_pass_grammar.proofs.Common.{row_cells, row_block, Taken, IsTable, line_end_boundary}
 use Rattle.first_pass_grammar.proofs.Common.{line_len, start_of}
 use Rattle.first_pass_grammar.specs.Tables.{FoundRow, TakesRows, row_text}
 use Rattle.first_pass_grammar.specs.declared.kind.Container.{Container}
-use Rattle.first_pass_grammar.proofs.Order.RowEnds.{pipe_inside, text_within}
+use Rattle.first_pass_grammar.proofs.Order.RowEnds.{text_within}
 use Rattle.first_pass_lines.proofs.LineFacts.{first_line}
 use Rattle.first_pass_lines.proofs.PlaceFacts.{white_boundary}
 use Rattle.first_pass_tokens.proofs.OrderLemmas.{cell_in_order, cell_end_place}
+use Rattle.first_pass_tables.proofs.CellsFit.{start_boundary}
 use Rattle.first_pass_tables.proofs.RowPlaces.{BeginsRow, begins_row}
 use Rattle.first_pass_content.specs.Chains.{AreChains, has_chain}
 use Rattle.first_pass_chains.proofs.Backslashes.{cell_follows}
@@ -40,17 +41,10 @@ block_copies : (text : List ℕ) (n : ℕ) (block : List (ℕ × Item)) → AreC
 block_copies text zero block h k = tt
 block_copies text (suc n) block h k = (h, k, block_copies text n block h k)
 
--- the start of a cell
-cell_boundary_by : (text : List ℕ) (at : ℕ) (t : Bool) → (slice_index text at == pipe) ≡ t → IsUtf8 text → IsCharBoundary text at
-    → IsCharBoundary text (cell_start text at)
-cell_boundary_by text at true here utf8 boundary =
-    let byte : slice_index text at ≡ pipe = eqb-true (slice_index text at) pipe here in
-    rw here (IsCharBoundary-after_ascii text at utf8 (pipe_inside text at here) (omega arith))
-cell_boundary_by text at false here utf8 boundary = rw here boundary
-
+-- where the text of a cell begins
 cell_boundary : (text : List ℕ) (at : ℕ) → IsUtf8 text → IsCharBoundary text at → IsCharBoundary text (cell_text text at)
 cell_boundary text at utf8 boundary =
-    white_boundary text (cell_start text at) utf8 (cell_boundary_by text at (slice_index text at == pipe) refl utf8 boundary)
+    white_boundary text (cell_start text at) utf8 (start_boundary text at (slice_index text at == pipe) refl utf8 boundary)
 
 module _ (d : Document) (utf8 : IsUtf8 d.text) where
   -- the cells of a row

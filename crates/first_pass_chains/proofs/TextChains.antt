@@ -18,7 +18,7 @@ use Rattle.first_pass_grammar.proofs.Common.{IsCharBoundary-before_ascii, IsChar
 use Rattle.first_pass_grammar.specs.Leaves.{without_end, before_signs, ends_closing}
 use Rattle.first_pass_grammar.specs.declared.kind.Container.{Container}
 use Rattle.first_pass_tokens.specs.LineTokens.{is_break}
-use Rattle.first_pass_tokens.proofs.Escapes.{cut_escaped}
+use Rattle.first_pass_tokens.proofs.Escapes.{EndsBy, cut_escaped, ends_later}
 use Rattle.first_pass_tokens.proofs.LineLemmas.{ends_line, last_passes}
 use Rattle.first_pass_tokens.proofs.OrderLemmas.{LineInOrder, order_closed, closed_line_in_order}
 use Rattle.first_pass_open.specs.Between.{line_end_at, MarkerBetween}
@@ -32,7 +32,7 @@ use Rattle.first_pass_leaves.proofs.ParagraphLemmas.{line_end-text}
 use Rattle.first_pass_leaves.proofs.PlainTexts.{children_by}
 use Rattle.first_pass_leaves.proofs.TextFronts.{front_len, front_utf8, place_in_front, order_in_text}
 use Rattle.first_pass_reports.specs.Pairs.{is_escaped}
-use Rattle.first_pass_chains.proofs.Backslashes.{FollowBackslashes, EndsBy, ends_adds, ends_append, follow_adds, follow_append, follow_closed, follow_cut}
+use Rattle.first_pass_chains.proofs.Backslashes.{FollowBackslashes, ends_adds, ends_append, follow_adds, follow_append, follow_closed, follow_cut}
 use Rattle.first_pass_chains.proofs.Backslashes.{follow_earlier, follow_in_text, escapes_of, line_follows}
 
 -- a chain in order, each of whose tokens follows its backslash
@@ -56,10 +56,6 @@ broken_follows text from ix next None chain is h k = (h, k)
 broken_follows text from ix next (Some x) chain is h k =
     (ends_append from next chain x (omega (arith, is.to)), follow_append text from chain x k (break_unmarked x.body is.kind))
 
-ends_on : (from at later : ℕ) (chain : List Item) → EndsBy from at chain → at ≤ later → EndsBy from later chain
-ends_on from at later [] h more = omega arith
-ends_on from at later (x ∷ chain) h more = ends_on x.«end» at later chain h more
-
 -- a line after a chain
 record AddsLine (text : List ℕ) (from ix : ℕ) (chain tokens : List Item) (answer : ℕ × Option Item) : Type 0 where
   place : answer.0 ≡ line_end_at text ix
@@ -80,7 +76,7 @@ module _ (d : Document) (path : List Container) (utf8 : IsUtf8 d.text) (from : �
       record {
         place = e.place;
         boundary = l.ends;
-        ends = ends_on from stop answer.0 (add_tokens chain tokens) (ends_adds d.text from ix stop chain tokens h l.tokens_fit) low;
+        ends = ends_later from stop answer.0 (add_tokens chain tokens) (ends_adds d.text from ix stop chain tokens h l.tokens_fit) low;
         follows = follow_adds d.text from ix chain tokens h k (line_follows line);
         broken = e.broken;
       }
@@ -105,7 +101,7 @@ module _ (d : Document) (path : List Container) (utf8 : IsUtf8 d.text) (from : �
       let next = broken_follows d.text from ix n answer.1 (add_tokens chain tokens) l.broken l.ends l.follows in
       lines_follow lines at after (add_break answer.1 (add_tokens chain tokens)) t
       (first.2 ∙ ap (lines_from d.text) (sym (line_end-text path d.text n utf8 l.boundary))) place.boundary
-      (ends_on from n at (add_break answer.1 (add_tokens chain tokens)) next.0 (omega arith)) next.1
+      (ends_later from n at (add_break answer.1 (add_tokens chain tokens)) next.0 (omega arith)) next.1
       (subst (λ z. AreTextLines d path (spot z after) (add_break answer.1 (add_tokens chain tokens)) lines t) at_is more)
 
 -- a marker before a chain

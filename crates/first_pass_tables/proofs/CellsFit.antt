@@ -85,7 +85,7 @@ few-fits {text} {low} {to = to} {items = items} w f before bound =
     between-any text w low to items (wide.row, wide.laid_is, wide.fits, λ room. (let most = bound room in let few = f.node_bound in omega arith))
 
 -- A cell begins at a character boundary, and so does its content.
-start_boundary : (text : List ℕ) (at : ℕ) (t : Bool) → (slice_index text at == pipe) ≡ t → IsUtf8 text → IsCharBoundary text at
+pub start_boundary : (text : List ℕ) (at : ℕ) (t : Bool) → (slice_index text at == pipe) ≡ t → IsUtf8 text → IsCharBoundary text at
     → IsCharBoundary text (cell_start text at)
 start_boundary text at true here utf8 boundary =
     let byte : slice_index text at ≡ pipe = eqb-true (slice_index text at) pipe here in

@@ -19,19 +19,19 @@ EscapesStand text from [] = Unit {0}
 EscapesStand text from (x ∷ xs) = EscapeAfter text from x × EscapesStand text x.«end» xs
 
 -- the last token of a chain from an offset on ends at another offset or before it
-abbrev EndsBy : ℕ → ℕ → List Item → Type 0
+abbrev pub EndsBy : ℕ → ℕ → List Item → Type 0
 EndsBy from at [] = from ≤ at
 EndsBy from at (x ∷ xs) = EndsBy x.«end» at xs
 
-ends_later : (from at later : ℕ) (chain : List Item) → EndsBy from at chain → at ≤ later → EndsBy from later chain
+pub ends_later : (from at later : ℕ) (chain : List Item) → EndsBy from at chain → at ≤ later → EndsBy from later chain
 ends_later from at later [] h more = omega arith
 ends_later from at later (x ∷ xs) h more = ends_later x.«end» at later xs h more
 
-ends_in_order : (text : List ℕ) (from to : ℕ) (chain : List Item) → AreInOrder text from to chain → EndsBy from to chain
+pub ends_in_order : (text : List ℕ) (from to : ℕ) (chain : List Item) → AreInOrder text from to chain → EndsBy from to chain
 ends_in_order text from to [] h = h
 ends_in_order text from to (x ∷ xs) h = ends_in_order text x.«end» to xs h.4
 
-ends_add : (from at : ℕ) (chain : List Item) (y : Item) → y.«end» ≤ at → EndsBy from at (add_token chain y)
+pub ends_add : (from at : ℕ) (chain : List Item) (y : Item) → y.«end» ≤ at → EndsBy from at (add_token chain y)
 ends_add from at chain y within =
     add_token-by (λ xs ys. (low : ℕ) → EndsBy low at ys) y (λ low. within) (λ x t first second place low. within) (λ x xs ys add low. add x.«end») chain from
 

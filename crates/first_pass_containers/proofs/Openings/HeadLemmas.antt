@@ -128,7 +128,7 @@ head_by bs label head false is = cc
 head_by bs None head true is = cc
 head_by bs (Some label) head true is = colon_by bs label.0 label.1 head (begins colon (drop label.0 (drop 2 bs))) refl is
 
-head_ends : (prefix : List ℕ → Option ℕ) (nested : Bool) (bs : List ℕ) (head : ℕ × List ℕ) → footnote_head prefix nested bs ≡ Some head
+pub head_ends : (prefix : List ℕ → Option ℕ) (nested : Bool) (bs : List ℕ) (head : ℕ × List ℕ) → footnote_head prefix nested bs ≡ Some head
     → (3 ≤ head.0) × (head.0 ≤ length bs) × (slice_index bs (head.0 - 1) ≡ colon)
 unfolding footnote_head
 head_ends prefix nested bs head is = head_by bs (label_at prefix nested (drop 2 bs)) head (begins_footnote_mark bs) is
