@@ -1,6 +1,8 @@
 -- Labels as they are compared, and the definition that a label names (CommonMark 4.7, 6.3).
-use Rattle.std.specs.Prelude.{ℕ, ◌-◌, List, [], ◌∷◌, length, take, drop, nat_eq, nat_lt, not, Bool, Option, Some, None, if◌then◌else◌}
+use Rattle.std.specs.Prelude.{ℕ, ◌+◌, ◌-◌, List, [], ◌∷◌, length, take, drop, nat_eq, nat_lt, not, Bool, Option, Some, None, if◌then◌else◌}
 use Rattle.std.specs.Cmp.Lexicographic.{pointwise}
+use Rattle.std.specs.List.{list_any}
+use Rattle.std.specs.Option.{option_map}
 use Rattle.first_pass_items.specs.Bytes.{space}
 use Rattle.first_pass_items.specs.declared.cow_str.CowStr.{CowStr}
 use Rattle.first_pass_items.specs.CowText.{text_of}
@@ -30,19 +32,29 @@ label_key label = folded (without_last_space (without_first_space (single_spaced
 abbrev pub has_key : List ℕ → CowStr → Bool
 has_key key label = pointwise nat_eq (label_key (text_of label)) key
 
--- of two definitions, if they are given, the one that begins first; the former if both begin at the same offset
--- (CommonMark 4.7)
-abbrev pub earlier : Option LinkDef → Option LinkDef → Option LinkDef
+-- a label of the table has the key of this one (CommonMark 6.3; for footnotes this project)
+abbrev pub has_label : {X : Type 0} → List (CowStr × X) → List ℕ → Bool
+has_label table label = list_any (λ e. has_key (label_key label) e.0) table
+
+-- of two definitions with their indices, if they are given, the one that begins first; the former if both begin at the
+-- same offset (CommonMark 4.7)
+abbrev pub earlier : Option (ℕ × LinkDef) → Option (ℕ × LinkDef) → Option (ℕ × LinkDef)
 earlier None other = other
 earlier (Some d) None = Some d
-earlier (Some d) (Some e) = if nat_lt e.span.start d.span.start then Some e else Some d
+earlier (Some d) (Some e) = if nat_lt e.1.span.start d.1.span.start then Some e else Some d
 
--- the definition with a key that begins first in the text, if there is one (CommonMark 4.7)
-unfoldable pub first_with_key : List ℕ → List (CowStr × LinkDef) → Option LinkDef
-first_with_key key [] = None
-first_with_key key (d ∷ ds) = if has_key key d.0 then earlier (Some d.1) (first_with_key key ds) else first_with_key key ds
+-- the definition with a key that begins first in the text, if there is one, and its index, given the index of the first
+-- of these (CommonMark 4.7)
+unfoldable pub first_with_key : List ℕ → ℕ → List (CowStr × LinkDef) → Option (ℕ × LinkDef)
+first_with_key key index [] = None
+first_with_key key index (d ∷ ds) =
+    if has_key key d.0 then earlier (Some (index, d.1)) (first_with_key key (index + 1) ds) else first_with_key key (index + 1) ds
 
 -- the definition that a label names: of those in the table whose label has the same key, the one that begins first in
 -- the text (CommonMark 4.7, 6.3)
 abbrev pub definition_of : List (CowStr × LinkDef) → List ℕ → Option LinkDef
-definition_of table label = first_with_key (label_key label) table
+definition_of table label = option_map (λ f. f.1) (first_with_key (label_key label) 0 table)
+
+-- its index in the table (this project)
+abbrev pub definition_index : List (CowStr × LinkDef) → List ℕ → Option ℕ
+definition_index table label = option_map (λ f. f.0) (first_with_key (label_key label) 0 table)

@@ -18,6 +18,7 @@ use first_pass_lines::places::rest_of;
 pub struct Target {
     /// The destination. Its text is empty if it is left out.
     pub dest: Part,
+    /// The title, if there is one.
     pub title: Option<Part>,
     /// The place after the `)`.
     pub past: usize,

@@ -1,0 +1,12 @@
+pub mod Blocks
+pub mod Flat
+pub mod Found
+pub mod LaterEnds
+pub mod Levels
+pub mod Pieces
+pub mod Plain
+pub mod Reach
+pub mod Steps
+pub mod Unique
+pub mod Views
+pub mod Writes
