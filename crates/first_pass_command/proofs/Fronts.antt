@@ -10,7 +10,8 @@ use Rattle.first_pass_items.specs.declared.option_set.Options.{Options}
 use Rattle.first_pass_host.specs.Runs.{WritesFront}
 use Rattle.first_pass_command.specs.Faults.{IsWritten, Tells, TellsFault, ends_run, no_memory_line}
 use Rattle.first_pass_command.specs.declared.fault.FileFault.{FileFault}
-use Rattle.first_pass_command.specs.declared.fault.FileFault.TheVariants.{Unread, NotUtf8 as WrongText, OutOfMemory as NoMemory, WriteFailed as FailedWrite, NoClock}
+use Rattle.first_pass_command.specs.declared.fault.FileFault.TheVariants.{Unread, NotUtf8 as WrongText, OutOfMemory as NoMemory}
+use Rattle.first_pass_command.specs.declared.fault.FileFault.TheVariants.{WriteFailed as FailedWrite, NoClock}
 use Rattle.first_pass_command.specs.Files.{LeavesBoth}
 use Rattle.first_pass_command.specs.Named.{LeavesNamed}
 

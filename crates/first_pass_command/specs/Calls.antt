@@ -1,5 +1,6 @@
 -- The run of a call over its files (this project).
-use Rattle.std.specs.Prelude.{◌≡◌, ◌==◌, ◌⊎◌, ℕ, Bool, true, false, List, [], ◌∷◌, ◌++◌, Option, None, Some, IsSomeAnd, codes, if◌then◌else◌, length, map, nat_lt, option_map}
+use Rattle.std.specs.Prelude.{◌≡◌, ◌==◌, ◌⊎◌, ℕ, Bool, true, false, List, [], ◌∷◌, ◌++◌, Option, None, Some, IsSomeAnd, codes, if◌then◌else◌, length}
+use Rattle.std.specs.Prelude.{map, nat_lt, option_map}
 use Rattle.std.specs.Option.{option_map_or}
 use Rattle.first_pass_host.specs.Streams.{Stream, IsUntouched}
 use Rattle.first_pass_json.specs.declared.page.Part.{Part}

@@ -133,7 +133,8 @@ module _ (text bytes : List ℕ) (runs : List Run) (last : Run) (start to e : �
       ∙ ap (λ l. content_with text bytes runs last ++ placed start l) (sym (slice_up_to text start to e up))
 
 -- the number of bytes so far
-pub built_size : (text bytes : List ℕ) (runs : List Run) (last : Run) → IsContentWith text bytes runs last → last.past ≡ length (content_with text bytes runs last)
+pub built_size : (text bytes : List ℕ) (runs : List Run) (last : Run) → IsContentWith text bytes runs last
+    → last.past ≡ length (content_with text bytes runs last)
 built_size text bytes runs last is =
     let mine : List ℕ = slice_range text last.start last.«end» in
     let before = length_content bytes 0 last.place runs is.before (omega (arith, is.place)) in

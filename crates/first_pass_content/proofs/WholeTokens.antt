@@ -108,7 +108,8 @@ module _ (text : List ℕ) (u : IsUtf8 text) where
       let low = token_low text from to x xs is h in
       let shape : front ++ low.first ∷ (low.rest ++ back) ≡ front ++ (own ++ back) = ap (λ l. front ++ (l ++ back)) (sym low.is) in
       subst (λ l. IsCharBoundary (bytes_of l) (place + 1)) shape
-      (after_byte front (low.rest ++ back) low.first place (subst (λ l. IsUtf8 (bytes_of l)) (sym shape) (utf8_both front (own ++ back) v after)) low.low size) in (
+      (after_byte front (low.rest ++ back) low.first place (subst (λ l. IsUtf8 (bytes_of l)) (sym shape) (utf8_both front (own ++ back) v after))
+      low.low size) in (
         starts_by (bytes_of (front ++ (own ++ back))) place (nat_lt (whole_start x.1) x.1.start && nat_lt place (place + length own)) here
             (λ h. slash (grown (is_escaped x.1.body) x.1.start place (place + length own) h)),
         ends,

@@ -1,5 +1,6 @@
 -- The chains of the blocks of a text, one after the other.
-use Rattle.std.proofs.Common.{◌≡◌, ℕ, ◌+◌, Bool, true, false, List, [], ◌∷◌, ◌++◌, take, nat_lt, sym, ap, subst, ◌∙◌, append_assoc, append-nil, All, IsUtf8, if◌then◌else◌}
+use Rattle.std.proofs.Common.{◌≡◌, ℕ, ◌+◌, Bool, true, false, List, [], ◌∷◌, ◌++◌, take, nat_lt, sym, ap, subst, ◌∙◌, append_assoc, append-nil, All}
+use Rattle.std.proofs.Common.{IsUtf8, if◌then◌else◌}
 use Rattle.std.specs.List.{AllZip, prefix_len}
 use Rattle.first_pass_items.specs.declared.item.Item.{Item}
 use Rattle.first_pass_content.specs.Chains.{AreChains, IsChain, chain_after, has_chain}
@@ -67,7 +68,8 @@ module _ (text : List ℕ) (n : ℕ × Item) (nodes rest : List (ℕ × Item)) (
 
 -- what was found in a chain is that of its block
 pub of_block : (text : List ℕ) (labels : TextLabels) (tokens : List (ℕ × Item)) (block : ℕ × List (ℕ × Item)) (x : BlockInlines) → tokens ≡ block.1
-    → x.block ≡ block.0 → x.inlines.content ≡ content text tokens → AreMarks (chain_of text tokens labels) x.inlines.marks.items → IsOfBlock text labels block x
+    → x.block ≡ block.0 → x.inlines.content ≡ content text tokens → AreMarks (chain_of text tokens labels) x.inlines.marks.items
+    → IsOfBlock text labels block x
 of_block text labels tokens block x e at made found = record {
   block_is = at;
   content_is = made ∙ ap (content text) e;
@@ -97,7 +99,8 @@ module _ (text : List ℕ) (labels : TextLabels) (block : ℕ) (n : ℕ × Item)
       → AreSoFar text labels (block + 1) nodes (found ++ x ∷ []) all
   one_more h x is more fits =
       subst (AllZip (IsOfBlock text labels) all) (sym (append_assoc found (x ∷ []) more))
-      (are (x ∷ more) (subst (λ l. AllZip (IsOfBlock text labels) l (x ∷ more)) (sym (ap (chains_from block) there ∙ chains_more true block n nodes h)) (is, fits)))
+      (are (x ∷ more) (subst (λ l. AllZip (IsOfBlock text labels) l (x ∷ more)) (sym (ap (chains_from block) there ∙ chains_more true block n nodes h))
+      (is, fits)))
 
   pub no_more : has_chain n.1.body ≡ false → AreSoFar text labels (block + 1) nodes found all
   no_more h more fits =

@@ -20,7 +20,11 @@ use Rattle.first_pass_inline.specs.declared.pair.View.TheVariants.{AtEnd, Opens,
 use Rattle.first_pass_inline.specs.Flat.{LinksHoldNone}
 use Rattle.first_pass_inline.specs.Look.{Chain, look}
 use Rattle.first_pass_inline.specs.Marks.{IsSequence}
-use Rattle.first_pass_inline.specs.Sequences.{Sequence, Ends, Single, Stray, Bracket, Paired, Where, after_bracket, later, after_pair, around_name, by_definition, by_footnote, by_label, by_own, by_own_label, by_target, bytes_in, closes, defined_by, first_name, has_footnote, holds_link, holds_note, is_image, is_link, is_name, judged, label_after, link_or_note, name_in, named, named_by, own_label, pair_of, past, quiet, reference, span_of, verdict, what_follows, wikilinks}
+use Rattle.first_pass_inline.specs.Sequences.{Sequence, Ends, Single, Stray, Bracket, Paired, Where, after_bracket, later, after_pair, around_name}
+use Rattle.first_pass_inline.specs.Sequences.{by_definition, by_footnote, by_label, by_own, by_own_label, by_target, bytes_in, closes, defined_by}
+use Rattle.first_pass_inline.specs.Sequences.{first_name, has_footnote, holds_link, holds_note, is_image, is_link, is_name, judged, label_after}
+use Rattle.first_pass_inline.specs.Sequences.{link_or_note, name_in, named, named_by, own_label, pair_of, past, quiet, reference, span_of, verdict}
+use Rattle.first_pass_inline.specs.Sequences.{what_follows, wikilinks}
 
 -- A pair that has to do with no wikilink has no name.
 
@@ -38,7 +42,8 @@ module _ (c : Chain) (p : Pair) where
 
   note_has_no_name : (label : Span) → name_in (by_footnote c p label) ≡ None
   note_has_no_name label =
-      choice (not (gfm_footnotes c.options) || has_footnote c (drop 1 (bytes_in c label))) (FootnoteReference label) (Undefined label p.«end».offset false) refl refl
+      choice (not (gfm_footnotes c.options) || has_footnote c (drop 1 (bytes_in c label))) (FootnoteReference label) (Undefined label p.«end».offset false)
+      refl refl
 
   own_has_no_name : (form : ReferenceForm) (at : _) (label : Option Span) → name_in (by_own_label c p form at label) ≡ None
   own_has_no_name form at None = refl
@@ -74,7 +79,8 @@ quiet_has_no_name false v h = h
 
 other_has_no_name : (c : Chain) (p : Pair) → name_in (link_or_note c p) ≡ None
 other_has_no_name c p =
-    choice (p.holds_note || (p.holds_link && not p.is_image)) Text (quiet p.waited (what_follows c p)) refl (quiet_has_no_name p.waited (what_follows c p) (following_has_no_name c p))
+    choice (p.holds_note || (p.holds_link && not p.is_image)) Text (quiet p.waited (what_follows c p)) refl
+    (quiet_has_no_name p.waited (what_follows c p) (following_has_no_name c p))
 
 chosen : (x : Bool) (v w : Verdict) (n : Name) → name_in (if x then v else w) ≡ Some n → name_in w ≡ None → x ≡ true
 chosen true v w n h k = refl

@@ -1,5 +1,6 @@
 -- Each chain has a sequence.
-use Rattle.std.proofs.Common.{◌≡◌, inl, inr, ℕ, zero, suc, ◌+◌, ◌<◌, ◌≤◌, nat_lt, Bool, true, false, List, length, drop, slice_get, Option, Some, None, refl, subst, arith, if◌then◌else◌}
+use Rattle.std.proofs.Common.{◌≡◌, inl, inr, ℕ, zero, suc, ◌+◌, ◌<◌, ◌≤◌, nat_lt, Bool, true, false, List, length, drop, slice_get, Option, Some}
+use Rattle.std.proofs.Common.{None, refl, subst, arith, if◌then◌else◌}
 use Rattle.std.specs.Option.{option_map_or}
 use Rattle.first_pass_items.specs.declared.item.ItemBody.{ItemBody}
 use Rattle.first_pass_items.specs.declared.item.ItemBody.TheVariants.{MaybeCode, MaybeHtml, MaybeLinkOpen, MaybeLinkClose, MaybeImage, MaybeMath}
@@ -14,9 +15,11 @@ use Rattle.first_pass_inline.specs.declared.pair.Place.{Place}
 use Rattle.first_pass_inline.specs.declared.pair.Verdict.{Verdict}
 use Rattle.first_pass_inline.specs.declared.pair.View.{View}
 use Rattle.first_pass_inline.specs.declared.pair.View.TheVariants.{AtEnd, Opens, Closes, Piece}
-use Rattle.first_pass_inline.specs.Look.{Chain, after_token, code_piece, look, math_piece, place_at, plain, token_from, view_body, view_code, view_html, view_math, view_raw, view_token}
+use Rattle.first_pass_inline.specs.Look.{Chain, after_token, code_piece, look, math_piece, place_at, plain, token_from, view_body, view_code}
+use Rattle.first_pass_inline.specs.Look.{view_html, view_math, view_raw, view_token}
 use Rattle.first_pass_inline.specs.Marks.{AreMarks, EndsAt, IsSequence, first_place, marks}
-use Rattle.first_pass_inline.specs.Sequences.{Sequence, Ends, Single, Stray, Bracket, Paired, Where, after_bracket, after_pair, later, outside, pair_of, past, verdict}
+use Rattle.first_pass_inline.specs.Sequences.{Sequence, Ends, Single, Stray, Bracket, Paired, Where, after_bracket, after_pair, later, outside}
+use Rattle.first_pass_inline.specs.Sequences.{pair_of, past, verdict}
 use Rattle.first_pass_inline.proofs.Reach.{judged_reaches}
 use Rattle.first_pass_inline.proofs.Steps.{at_end}
 use Rattle.first_pass_inline.proofs.LaterEnds.{code_later, index_found, math_later}
@@ -45,7 +48,8 @@ module _ (c : Chain) (index : ℕ) (t : PlacedToken) where
       by_token (Some u) = omega (arith, code_later c.nodes index last e)
 
   math_after : (found : Option MathEnd) → math_end c.nodes index ≡ found
-      → IsAfter index (option_map_or (λ (e : MathEnd). option_map_or (math_piece c index t e) (slice_get c.tokens e.last) (plain index t)) found (plain index t))
+      → IsAfter index (option_map_or (λ (e : MathEnd). option_map_or (math_piece c index t e) (slice_get c.tokens e.last)
+      (plain index t)) found (plain index t))
   math_after None e = next
   math_after (Some m) e = by_token (slice_get c.tokens m.last)
     where

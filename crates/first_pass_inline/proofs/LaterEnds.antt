@@ -8,20 +8,23 @@ use Rattle.std.proofs.lemmas.List.{get_or-drop}
 use Rattle.std.proofs.lemmas.List.Sums.{prefix_len_stops}
 use Rattle.first_pass_items.specs.declared.item.Item.{Item}
 use Rattle.first_pass_lines.proofs.OptionFacts.{some_if}
-use Rattle.first_pass_atoms.specs.TokenEnds.{closes_at, code_end, code_sought, display_end, ended_at, has_code, has_math, inline_end, is_dollar_at, key_at, later, math_end, opening_context}
+use Rattle.first_pass_atoms.specs.TokenEnds.{closes_at, code_end, code_sought, display_end, ended_at, has_code, has_math, inline_end, is_dollar_at}
+use Rattle.first_pass_atoms.specs.TokenEnds.{key_at, later, math_end, opening_context}
 use Rattle.first_pass_atoms.specs.declared.token_ends.MathEnd.{MathEnd}
 use Rattle.first_pass_atoms.proofs.NextFacts.{some_token}
 use Rattle.first_pass_content.specs.declared.tokens.PlacedToken.{PlacedToken}
 use Rattle.first_pass_inline.specs.Look.{index_at}
 
 -- the first token that ends after an offset
-pub index_found : (ts : List PlacedToken) (index offset : ℕ) → (k : ℕ) × (index_at ts index offset ≡ index + k) × ((t : PlacedToken) → slice_get ts k ≡ Some t → offset < t.«end»)
+pub index_found : (ts : List PlacedToken) (index offset : ℕ)
+    → (k : ℕ) × (index_at ts index offset ≡ index + k) × ((t : PlacedToken) → slice_get ts k ≡ Some t → offset < t.«end»)
 index_found [] index offset = (0, omega arith, λ t e. absurd (none-some t e))
 index_found (u ∷ ts) index offset = by_test (nat_lt offset u.«end») refl (index_found ts (index + 1) offset)
   where
     by_test : (b : Bool) → nat_lt offset u.«end» ≡ b
         → (k : ℕ) × (index_at ts (index + 1) offset ≡ index + 1 + k) × ((t : PlacedToken) → slice_get ts k ≡ Some t → offset < t.«end»)
-        → (k : ℕ) × ((if b then index else index_at ts (index + 1) offset) ≡ index + k) × ((t : PlacedToken) → slice_get (u ∷ ts) k ≡ Some t → offset < t.«end»)
+        → (k : ℕ) × ((if b then index else index_at ts (index + 1) offset) ≡ index + k)
+        × ((t : PlacedToken) → slice_get (u ∷ ts) k ≡ Some t → offset < t.«end»)
     by_test true h r =
         let less : offset < u.«end» = grind (arith, nat_tests, h) in
         (0, omega arith, λ t e. subst (λ (x : PlacedToken). offset < x.«end») (same_Some u t e) less)

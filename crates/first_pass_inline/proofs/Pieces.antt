@@ -1,5 +1,6 @@
 -- Complete pieces: what is known of them, and one sequence after another.
-use Rattle.std.proofs.Common.{◌≡◌, ◌<◌, ◌||◌, Bool, true, false, List, [], ◌∷◌, ◌++◌, length, refl, sym, ap, subst, arith, append_assoc, length-append, ℕ, Option, Some, None, if◌then◌else◌}
+use Rattle.std.proofs.Common.{◌≡◌, ◌<◌, ◌||◌, Bool, true, false, List, [], ◌∷◌, ◌++◌, length, refl, sym, ap, subst, arith, append_assoc}
+use Rattle.std.proofs.Common.{length-append, ℕ, Option, Some, None, if◌then◌else◌}
 use Rattle.std.proofs.lemmas.Grind.{common_steps}
 use Rattle.first_pass_inline.specs.declared.mark.Mark.{Mark}
 use Rattle.first_pass_inline.specs.declared.mark.Span.{Span}
@@ -7,7 +8,8 @@ use Rattle.first_pass_inline.specs.declared.pair.Place.{Place}
 use Rattle.first_pass_inline.specs.declared.pair.Verdict.{Verdict}
 use Rattle.first_pass_inline.specs.declared.pair.Verdict.TheVariants.{Text, Undefined, Link, FootnoteReference, Name}
 use Rattle.first_pass_inline.specs.Look.{Chain}
-use Rattle.first_pass_inline.specs.Sequences.{Sequence, Ends, Single, Stray, Bracket, Paired, Where, outside, later, after_pair, first_of, first_pipe, has_pair, is_image, is_text, past, piece_pipe}
+use Rattle.first_pass_inline.specs.Sequences.{Sequence, Ends, Single, Stray, Bracket, Paired, Where, outside, later, after_pair, first_of}
+use Rattle.first_pass_inline.specs.Sequences.{first_pipe, has_pair, is_image, is_text, past, piece_pipe}
 use Rattle.first_pass_inline.specs.Marks.{IsSequence, EndsAt, marks, pair_marks, note_marks}
 use Rattle.first_pass_inline.specs.Open.{Reads, where_after}
 

@@ -1,5 +1,6 @@
 -- No piece, and no bracket, has the mark of a name; and each bracket ends between characters.
-use Rattle.std.proofs.Common.{◌≡◌, ℕ, zero, suc, ◌<◌, Bool, true, false, All, List, [], ◌∷◌, ◌++◌, length, get_or, slice_get, nat_lt, Option, Some, None, refl, sym, ap, ◌∙◌, subst, if◌then◌else◌}
+use Rattle.std.proofs.Common.{◌≡◌, ℕ, zero, suc, ◌<◌, Bool, true, false, All, List, [], ◌∷◌, ◌++◌, length, get_or, slice_get, nat_lt, Option, Some}
+use Rattle.std.proofs.Common.{None, refl, sym, ap, ◌∙◌, subst, if◌then◌else◌}
 use Rattle.std.proofs.lemmas.Option.{same_Some, slice_get-get_or, slice_get_within}
 use Rattle.std.specs.Option.{option_map_or}
 use Rattle.std.specs.Str.{IsCharBoundary}
@@ -19,7 +20,8 @@ use Rattle.first_pass_inline.specs.declared.pair.View.TheVariants.{AtEnd, Opens,
 use Rattle.first_pass_inline.specs.declared.pair.Verdict.{Verdict}
 use Rattle.first_pass_inline.specs.declared.pair.Verdict.TheVariants.{Text, Undefined, Link, FootnoteReference, Name}
 use Rattle.first_pass_content.specs.Tokens.{IsWholeToken}
-use Rattle.first_pass_inline.specs.Look.{AreWhole, Chain, look, view_code, view_token, view_body, view_html, view_math, view_raw, code_piece, math_piece, plain, after_token, token_from, mark_of}
+use Rattle.first_pass_inline.specs.Look.{AreWhole, Chain, look, view_code, view_token, view_body, view_html, view_math, view_raw, code_piece}
+use Rattle.first_pass_inline.specs.Look.{math_piece, plain, after_token, token_from, mark_of}
 use Rattle.first_pass_inline.specs.Sequences.{Sequence, Ends, Single, Stray, Bracket, Paired, Where, first_name, name_in, is_image}
 use Rattle.first_pass_inline.specs.Marks.{IsSequence, marks, pair_marks, note_marks}
 use Rattle.first_pass_inline.specs.Open.{name_of, name_of_kind}

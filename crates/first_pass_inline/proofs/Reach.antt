@@ -1,5 +1,6 @@
 -- Where reading continues after a pair.
-use Rattle.std.proofs.Common.{◌≡◌, ℕ, zero, suc, ◌+◌, ◌-◌, ◌<◌, ◌≤◌, nat_lt, ◌==◌, ◌&&◌, ◌||◌, not, Bool, true, false, List, [], ◌∷◌, length, length-drop, take, drop, Option, Some, None, IfSome, refl, ap, arith, if◌then◌else◌}
+use Rattle.std.proofs.Common.{◌≡◌, ℕ, zero, suc, ◌+◌, ◌-◌, ◌<◌, ◌≤◌, nat_lt, ◌==◌, ◌&&◌, ◌||◌, not, Bool, true, false, List, [], ◌∷◌, length}
+use Rattle.std.proofs.Common.{length-drop, take, drop, Option, Some, None, IfSome, refl, ap, arith, if◌then◌else◌}
 use Rattle.std.specs.List.{prefix_len}
 use Rattle.std.specs.Option.{option_and_then, option_map, option_map_or}
 use Rattle.std.proofs.lemmas.Option.{same_Some, option_and_then_some}
@@ -22,7 +23,9 @@ use Rattle.first_pass_inline.specs.declared.pair.Reference.{Reference}
 use Rattle.first_pass_inline.specs.declared.pair.Verdict.{Verdict}
 use Rattle.first_pass_inline.specs.declared.pair.Verdict.TheVariants.{Text, Undefined, Link, FootnoteReference, Name}
 use Rattle.first_pass_inline.specs.Look.{Chain, place_at}
-use Rattle.first_pass_inline.specs.Sequences.{around_name, by_definition, by_footnote, by_label, by_own, by_own_label, by_target, bytes_in, defined_by, has_footnote, is_name, judged, label_after, link_or_note, named, named_by, own_label, past, quiet, reference, span_of, what_follows}
+use Rattle.first_pass_inline.specs.Sequences.{around_name, by_definition, by_footnote, by_label, by_own, by_own_label, by_target, bytes_in}
+use Rattle.first_pass_inline.specs.Sequences.{defined_by, has_footnote, is_name, judged, label_after, link_or_note, named, named_by, own_label, past}
+use Rattle.first_pass_inline.specs.Sequences.{quiet, reference, span_of, what_follows}
 
 -- one of two results
 pub either : {A C : Type 0} (b : Bool) (o p : Option A) (x : A) → (o ≡ Some x → C) → (p ≡ Some x → C) → (if b then o else p) ≡ Some x → C
@@ -43,7 +46,8 @@ byte_within k (b ∷ bs) zero h = omega arith
 byte_within k (b ∷ bs) (suc at) h = omega (arith, byte_within k bs at h)
 
 label_of_len : (content : List ℕ) (place n : ℕ) (l : Part)
-    → (if begins right_bracket (drop n (drop place content)) && is_short (take n (drop place content)) then Some (part place (place + n) (place + n + 1)) else None) ≡ Some l
+    → (if begins right_bracket (drop n (drop place content)) && is_short (take n (drop place content))
+    then Some (part place (place + n) (place + n + 1)) else None) ≡ Some l
     → (place ≤ l.past) × (l.past ≤ length content)
 label_of_len content place n l h =
     let bs : List ℕ = drop place content in
@@ -92,7 +96,8 @@ past_title : (content : List ℕ) (place : ℕ) (dest : Part) (title : Option Pa
 past_title content place dest None e h = h
 past_title content place dest (Some t) e h = omega (arith, h, title_later content dest.past t e)
 
-closed_end : (content : List ℕ) (place : ℕ) (dest : Part) (title : Option Part) (t : InlineTarget) → place ≤ option_map_or (λ (t : Part). t.past) title dest.past
+closed_end : (content : List ℕ) (place : ℕ) (dest : Part) (title : Option Part) (t : InlineTarget)
+    → place ≤ option_map_or (λ (t : Part). t.past) title dest.past
     → target_with content dest title ≡ Some t → (place ≤ t.past) × (t.past ≤ length content)
 closed_end content place dest title t l h =
     let from : ℕ = option_map_or (λ (t : Part). t.past) title dest.past in
@@ -107,7 +112,8 @@ target_end : (content : List ℕ) (place : ℕ) (t : InlineTarget) → target_at
 unfolding target_at
 target_end content place t h =
     let n : ℕ = prefix_len is_blank (drop (place + 1) content) in
-    let s = some_if (begins left_parenthesis (drop place content)) (option_and_then (target_after content) (inline_destination_at content (place + 1 + n))) t h in
+    let s = some_if (begins left_parenthesis (drop place content))
+    (option_and_then (target_after content) (inline_destination_at content (place + 1 + n))) t h in
     option_and_then_some (target_after content) (inline_destination_at content (place + 1 + n)) t s.1 (λ dest d e. closed_end content place dest
     (separate_title_at content dest.past) t
     (past_title content place dest (separate_title_at content dest.past) refl (omega (arith, destination_later content (place + 1 + n) dest d))) e)
@@ -157,7 +163,9 @@ module _ (c : Chain) (p : Pair) (P : Place → Type 0) (here : P p.«end») (the
       (choice_reaches is_other (by_own c p Shortcut p.«end».offset) full shortcut_reaches (definition_reaches (reference Full (span_of l) l.past) h))
 
   after_is_reached : IfSome (label_after c p) (λ l. IsReached c p l.past)
-  after_is_reached = if_some (label_after c p) (λ l e. on l (label_end c.bytes (p.«end».offset + 1) l (some_if (begins left_bracket (drop p.«end».offset c.bytes)) (inline_label_at c.bytes (p.«end».offset + 1)) l e).1))
+  after_is_reached = if_some (label_after c p) (λ l e.
+      on l (label_end c.bytes (p.«end».offset + 1) l
+      (some_if (begins left_bracket (drop p.«end».offset c.bytes)) (inline_label_at c.bytes (p.«end».offset + 1)) l e).1))
     where
       on : (l : Part) → (p.«end».offset + 1 ≤ l.past) × (l.past ≤ length c.bytes) → IsReached c p l.past
       on l h = (omega (arith, h.0), λ k. h.1)
@@ -184,7 +192,8 @@ module _ (c : Chain) (p : Pair) (P : Place → Type 0) (here : P p.«end») (the
   name_reaches (Some n) = here
   name_reaches None =
       choice_reaches (is_name c p) (Name (named p.text p.pipe)) (link_or_note c p) here
-      (choice_reaches (p.holds_note || (p.holds_link && not p.is_image)) Text (quiet p.waited (what_follows c p)) here (quiet_reaches p.waited (what_follows c p) following_reaches))
+      (choice_reaches (p.holds_note || (p.holds_link && not p.is_image)) Text (quiet p.waited (what_follows c p)) here
+      (quiet_reaches p.waited (what_follows c p) following_reaches))
 
   pub judged_reaches : P (past p.«end» (judged c p))
   unfolding judged

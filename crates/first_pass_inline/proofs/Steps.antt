@@ -1,5 +1,6 @@
 -- The steps of the walk.
-use Rattle.std.proofs.Common.{◌≡◌, inr, ℕ, zero, suc, ◌+◌, ◌-◌, ◌≤◌, ◌<◌, ◌==◌, ◌&&◌, ◌||◌, nat_lt, Bool, true, false, List, [], ◌∷◌, ◌++◌, length, take, drop, slice_get, Option, Some, None, refl, sym, ap, ◌∙◌, subst, arith, append-nil, length-append, if◌then◌else◌}
+use Rattle.std.proofs.Common.{◌≡◌, inr, ℕ, zero, suc, ◌+◌, ◌-◌, ◌≤◌, ◌<◌, ◌==◌, ◌&&◌, ◌||◌, nat_lt, Bool, true, false, List, [], ◌∷◌, ◌++◌, length}
+use Rattle.std.proofs.Common.{take, drop, slice_get, Option, Some, None, refl, sym, ap, ◌∙◌, subst, arith, append-nil, length-append, if◌then◌else◌}
 use Rattle.std.proofs.lemmas.Grind.{common_steps}
 use Rattle.std.proofs.Math.Seq.{take-append_seam, drop-append-add}
 use Rattle.std.proofs.lemmas.Bool.{cases_Bool}
@@ -16,18 +17,23 @@ use Rattle.first_pass_inline.specs.declared.pair.View.TheVariants.{AtEnd, Opens,
 use Rattle.first_pass_inline.specs.declared.walk.Opened.{Opened}
 use Rattle.first_pass_inline.specs.declared.walk.Walk.{Walk}
 use Rattle.first_pass_inline.specs.Look.{AreWhole, Chain, look}
-use Rattle.first_pass_inline.specs.Sequences.{IsWholePair, Sequence, Ends, Single, Stray, Bracket, Paired, Where, outside, after_bracket, waits, has_pair, holds_link, holds_note, first_name, first_of, first_pipe, is_image, is_link, is_note, is_text, judged, pair_of, verdict, past, piece_pipe}
+use Rattle.first_pass_inline.specs.Sequences.{IsWholePair, Sequence, Ends, Single, Stray, Bracket, Paired, Where, outside, after_bracket, waits}
+use Rattle.first_pass_inline.specs.Sequences.{has_pair, holds_link, holds_note, first_name, first_of, first_pipe, is_image, is_link, is_note}
+use Rattle.first_pass_inline.specs.Sequences.{is_text, judged, pair_of, verdict, past, piece_pipe}
 use Rattle.first_pass_inline.specs.Marks.{marks, pair_marks, note_marks, first_place, AreMarks}
-use Rattle.first_pass_inline.specs.Open.{Reads, Levels, Base, Inner, AreLevels, where_after, where_now, innermost, marks_so_far, opened, stack_of, depth, below, is_fresh, name_of, name_after, note_pair, pair_by, IsBefore, IsPopped}
+use Rattle.first_pass_inline.specs.Open.{Reads, Levels, Base, Inner, AreLevels, where_after, where_now, innermost, marks_so_far, opened, stack_of}
+use Rattle.first_pass_inline.specs.Open.{depth, below, is_fresh, name_of, name_after, note_pair, pair_by, IsBefore, IsPopped}
 use Rattle.first_pass_inline.proofs.Pieces.{ended, after_outside, after_nested, after_some, first_none, no_marks}
 use Rattle.first_pass_inline.proofs.Plain.{IsSound, first_named, look_sound}
-use Rattle.first_pass_inline.proofs.Levels.{added, added_levels, added_marks, added_where, added_stack, added_pipe, added_below, stack_length, below_within, end_marks}
+use Rattle.first_pass_inline.proofs.Levels.{added, added_levels, added_marks, added_where, added_stack, added_pipe, added_below, stack_length}
+use Rattle.first_pass_inline.proofs.Levels.{below_within, end_marks}
 
 pub empty : {A : Type 0} (xs : List A) → length xs ≡ 0 → xs ≡ []
 empty [] h = refl
 empty (x ∷ xs) h = absurd (omega arith)
 
-pub begins : (c : Chain) (walk : Walk) → walk.marks.items ≡ [] → walk.brackets.items ≡ [] → walk.links ≡ 0 → walk.notes ≡ 0 → walk.waited ≡ false → walk.pipe ≡ None
+pub begins : (c : Chain) (walk : Walk) → walk.marks.items ≡ [] → walk.brackets.items ≡ [] → walk.links ≡ 0 → walk.notes ≡ 0 → walk.waited ≡ false
+    → walk.pipe ≡ None
     → IsKnownOf c.bytes walk.ends → IsBefore c walk first_place
 begins c walk ms os k m u p e = record {
   levels = Base Ends;
@@ -77,7 +83,8 @@ pub single_read : (c : Chain) (old new : Walk) (at q : Place) (m : Mark) → IsB
 single_read c old new at q m h o is =
     piece_read c h.levels new at q (Single m Ends) h.are_levels (q, o, refl) (is.marks_are ∙ ap (λ (x : List Mark). x ++ m ∷ []) h.marks_are)
     (is.brackets_are ∙ h.stack_is) (is.links_are ∙ h.links_are) (is.notes_are ∙ h.notes_are) is.waited_is
-    (is.pipe_is ∙ ap (λ p. first_of p (piece_pipe c m m.kind)) h.pipe_is ∙ ap (first_of (first_pipe c (innermost h.levels))) (sym (first_none (piece_pipe c m m.kind))))
+    (is.pipe_is ∙ ap (λ p. first_of p (piece_pipe c m m.kind)) h.pipe_is ∙ ap (first_of (first_pipe c (innermost h.levels)))
+    (sym (first_none (piece_pipe c m m.kind))))
     is.known
 
 snoc_not_nil : {A : Type 0} (xs : List A) (x : A) → xs ++ x ∷ [] ≡ [] → ⊥
@@ -234,7 +241,8 @@ module _ (c : Chain) (walk : Walk) (bracket : Opened) (m : Mark) (b : Place) (p 
       let fresh : is_fresh walk.brackets.items bracket.index ≡ (where_now p.outer).directly = rw (p.stack_is, p.index_is) (fresh_is c p.outer) in
       let inner = ended c after_bracket p.inside p.are_levels.1 p.at p.are_levels.4 (inr (refl, m, b, p.closes_is)) in
       let name : name_after walk.marks.items bracket.index ≡ first_name p.inside =
-      rw (p.marks_are, p.index_is, get_after (marks_so_far p.outer) bracket.mark (marks p.inside)) (first_named c whole after_bracket p.are_levels.1 p.at p.inside inner) in
+      rw (p.marks_are, p.index_is, get_after (marks_so_far p.outer) bracket.mark (marks p.inside))
+      (first_named c whole after_bracket p.are_levels.1 p.at p.inside inner) in
       let links : nat_lt (length walk.brackets.items) walk.links ≡ holds_link p.inside = holds is_link walk.links p.links_are in
       let notes : nat_lt (length walk.brackets.items) walk.notes ≡ holds_note p.inside = holds note_pair walk.notes p.notes_are in
       rw (fresh, p.waited_is, name, links, notes, p.pipe_is) refl

@@ -1,14 +1,16 @@
 -- The sequence at a place, and the marks of a sequence.
 use Rattle.std.specs.Prelude.{◌≡◌, ◌⊎◌, ℕ, ◌+◌, ◌-◌, Bool, true, false, if◌then◌else◌, not, List, [], ◌∷◌, ◌++◌, length, Option, Some, None}
 use Rattle.first_pass_inline.specs.declared.mark.Mark.{Mark}
-use Rattle.first_pass_inline.specs.declared.mark.MarkKind.TheVariants.{FootnoteReference as NoteMark, Link as LinkMark, LinkEnd, Name as NameMark, NameEnd, Undefined as UndefinedMark}
+use Rattle.first_pass_inline.specs.declared.mark.MarkKind.TheVariants.{FootnoteReference as NoteMark, Link as LinkMark, LinkEnd, Name as NameMark}
+use Rattle.first_pass_inline.specs.declared.mark.MarkKind.TheVariants.{NameEnd, Undefined as UndefinedMark}
 use Rattle.first_pass_inline.specs.declared.mark.Span.{Span}
 use Rattle.first_pass_inline.specs.declared.pair.Place.{Place}
 use Rattle.first_pass_inline.specs.declared.pair.Verdict.{Verdict}
 use Rattle.first_pass_inline.specs.declared.pair.Verdict.TheVariants.{Text, Undefined, Link, FootnoteReference, Name}
 use Rattle.first_pass_inline.specs.declared.pair.View.TheVariants.{AtEnd, Opens, Closes, Piece}
 use Rattle.first_pass_inline.specs.Look.{Chain, look, mark_of, place_with}
-use Rattle.first_pass_inline.specs.Sequences.{Sequence, Ends, Single, Stray, Bracket, Paired, Where, outside, after_bracket, later, after_pair, has_pair, is_image, is_link, is_note, verdict, past}
+use Rattle.first_pass_inline.specs.Sequences.{Sequence, Ends, Single, Stray, Bracket, Paired, Where, outside, after_bracket, later, after_pair}
+use Rattle.first_pass_inline.specs.Sequences.{has_pair, is_image, is_link, is_note, verdict, past}
 
 -- a sequence ends at a place: where the content ends, or at a closing bracket if it is in brackets
 abbrev pub EndsAt : Chain → Where → Place → Type 0

@@ -1,5 +1,6 @@
 -- The state of the walk: a sequence with a hole for each open bracket. Only contracts of private functions cite this.
-use Rattle.std.specs.Prelude.{◌≡◌, ℕ, ◌+◌, ◌-◌, ◌==◌, ◌&&◌, nat_lt, slice_get, Bool, true, false, List, [], ◌∷◌, ◌++◌, length, Option, Some, None, if◌then◌else◌}
+use Rattle.std.specs.Prelude.{◌≡◌, ℕ, ◌+◌, ◌-◌, ◌==◌, ◌&&◌, nat_lt, slice_get, Bool, true, false, List, [], ◌∷◌, ◌++◌, length, Option, Some, None}
+use Rattle.std.specs.Prelude.{if◌then◌else◌}
 use Rattle.first_pass_atoms.specs.HtmlEnds.{IsKnownOf}
 use Rattle.first_pass_inline.specs.declared.mark.Mark.{Mark}
 use Rattle.first_pass_inline.specs.declared.mark.MarkKind.{MarkKind}
@@ -12,7 +13,8 @@ use Rattle.first_pass_inline.specs.declared.pair.View.TheVariants.{Opens, Closes
 use Rattle.first_pass_inline.specs.declared.walk.Walk.{Walk}
 use Rattle.first_pass_inline.specs.declared.walk.Opened.{Opened}
 use Rattle.first_pass_inline.specs.Look.{Chain, look, span}
-use Rattle.first_pass_inline.specs.Sequences.{Sequence, Ends, Single, Stray, Bracket, Paired, Where, outside, after_bracket, later, after_pair, has_pair, first_pipe, is_image, is_link, is_note, verdict, past}
+use Rattle.first_pass_inline.specs.Sequences.{Sequence, Ends, Single, Stray, Bracket, Paired, Where, outside, after_bracket, later, after_pair}
+use Rattle.first_pass_inline.specs.Sequences.{has_pair, first_pipe, is_image, is_link, is_note, verdict, past}
 use Rattle.first_pass_inline.specs.Marks.{IsSequence, marks, first_place}
 
 -- complete pieces from one place up to another: a sequence whose end is open

@@ -2,7 +2,8 @@
 use Rattle.std.proofs.Common.{◌≡◌, ◌≢◌, ℕ, List, [], ◌∷◌, Bool, true, ◌&&◌, ◌⊎◌, inl, inr, Option, Some, None, refl, ap, ap₂, ◌∙◌, sym, subst}
 use Rattle.std.proofs.lemmas.Bool.{cases_eq, false≢true, and_parts}
 use Rattle.json.specs.Align.{is_good}
-use Rattle.json.specs.Lex.{Lexeme, token, comma, colon, Class, quote, backslash, operator, space, other, class, operator_lexeme, string_token, Mode, between, in_word, in_string, in_escape, lex_byte, lex}
+use Rattle.json.specs.Lex.{Lexeme, token, comma, colon, Class, quote, backslash, operator, space, other, class, operator_lexeme, string_token, Mode}
+use Rattle.json.specs.Lex.{between, in_word, in_string, in_escape, lex_byte, lex}
 use Rattle.json.specs.Text.{content, plain}
 use Rattle.json.specs.Word.{after_number, word}
 use Rattle.first_pass_json.specs.Scripts.{in_script}

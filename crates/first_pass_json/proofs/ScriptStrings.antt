@@ -1,9 +1,11 @@
 -- A string in a script element has the content that it has without it.
-use Rattle.std.proofs.Common.{◌≡◌, ◌≢◌, ℕ, List, [], ◌∷◌, Bool, true, false, cond, ◌&&◌, ◌==◌, ◌⊎◌, inl, inr, Option, Some, None, option_and_then, refl, ap, ◌∙◌, sym, subst}
+use Rattle.std.proofs.Common.{◌≡◌, ◌≢◌, ℕ, List, [], ◌∷◌, Bool, true, false, cond, ◌&&◌, ◌==◌, ◌⊎◌, inl, inr, Option, Some, None, option_and_then, refl}
+use Rattle.std.proofs.Common.{ap, ◌∙◌, sym, subst}
 use Rattle.std.proofs.lemmas.Bool.{cases_eq, cases_Bool, true≢false, and_parts}
 use Rattle.std.specs.Char.{is_digit, digit_value, encode_utf8}
 use Rattle.std.specs.Prelude.{nat_lt, ◌+◌, ◌*◌}
-use Rattle.json.specs.Text.{Within, content, plain, after_backslash, after_u, after_high, prepend, code_unit, short_escape, is_high_surrogate, is_low_surrogate, surrogate_pair}
+use Rattle.json.specs.Text.{Within, content, plain, after_backslash, after_u, after_high, prepend, code_unit, short_escape, is_high_surrogate}
+use Rattle.json.specs.Text.{is_low_surrogate, surrogate_pair}
 use Rattle.first_pass_json.specs.Scripts.{in_script}
 use Rattle.first_pass_json.proofs.Scripts.{in_script-other}
 

@@ -1,10 +1,13 @@
 -- JSON in a script element is the value that it is without it.
-use Rattle.std.proofs.Common.{◌≡◌, ℕ, zero, suc, List, [], ◌∷◌, length, Bool, true, false, ◌&&◌, Option, Some, None, option_and_then, refl, ap, ◌∙◌, sym, arith, append-nil}
+use Rattle.std.proofs.Common.{◌≡◌, ℕ, zero, suc, List, [], ◌∷◌, length, Bool, true, false, ◌&&◌, Option, Some, None, option_and_then, refl, ap, ◌∙◌, sym}
+use Rattle.std.proofs.Common.{arith, append-nil}
 use Rattle.std.proofs.lemmas.Bool.{false≢true, and_parts, and_from}
 use Rattle.std.specs.Prelude.{⊤}
 use Rattle.json.specs.Align.{is_good}
-use Rattle.json.specs.Json.{Json, array, object, Items, item, Members, member, Parse, parse_map, after_end_array, read_key, items_step, members_step, items, members, value_with, value, if_last, max_depth, document}
-use Rattle.json.specs.Lex.{Lexeme, token, comma, colon, between, Place, fresh, after_value, after_comma, after_key, begins_colon, may_begin, may_close, if_allowed, place_token, punctuate, lex, tokens}
+use Rattle.json.specs.Json.{Json, array, object, Items, item, Members, member, Parse, parse_map, after_end_array, read_key, items_step, members_step}
+use Rattle.json.specs.Json.{items, members, value_with, value, if_last, max_depth, document}
+use Rattle.json.specs.Lex.{Lexeme, token, comma, colon, between, Place, fresh, after_value, after_comma, after_key, begins_colon, may_begin, may_close}
+use Rattle.json.specs.Lex.{if_allowed, place_token, punctuate, lex, tokens}
 use Rattle.json.specs.Print.{quoted, print_from}
 use Rattle.json.specs.Token.{Token}
 use Rattle.json.proofs.Grammar.{closed_array, read_key_is}

@@ -1,5 +1,7 @@
 -- A word in a script element is the one that it is without it.
-use Rattle.std.proofs.Common.{◌≡◌, ◌≢◌, ℕ, suc, ◌+◌, ◌-◌, List, [], ◌∷◌, ◌++◌, length, take, drop, Bool, true, false, cond, ◌||◌, ◌==◌, ◌⊎◌, inl, inr, Option, Some, None, option_and_then, refl, ap, ap₂, ◌∙◌, arith, sym, subst, append_assoc, length-append, take_at, take-append-drop}
+use Rattle.std.proofs.Common.{◌≡◌, ◌≢◌, ℕ, suc, ◌+◌, ◌-◌, List, [], ◌∷◌, ◌++◌, length, take, drop, Bool, true, false, cond, ◌||◌, ◌==◌, ◌⊎◌, inl, inr}
+use Rattle.std.proofs.Common.{Option, Some, None, option_and_then, refl, ap, ap₂, ◌∙◌, arith, sym, subst, append_assoc, length-append, take_at}
+use Rattle.std.proofs.Common.{take-append-drop}
 use Rattle.std.proofs.lemmas.Bool.{cases_eq, true≢false, false≢true, and_parts, or_cases}
 use Rattle.std.proofs.lemmas.Slice.Eq.{bytes_eq-Decides}
 use Rattle.std.specs.Char.{is_ascii_digit}
@@ -7,7 +9,8 @@ use Rattle.std.specs.List.{prefix_len}
 use Rattle.std.specs.Prelude.{⊤}
 use Rattle.json.specs.Align.{is_good}
 use Rattle.json.specs.Token.{Token}
-use Rattle.json.specs.Word.{head, ends_word, after_digits, after_minus, after_sign, after_whole, after_fraction, after_exponent, after_number, number_before, literal, word}
+use Rattle.json.specs.Word.{head, ends_word, after_digits, after_minus, after_sign, after_whole, after_fraction, after_exponent, after_number}
+use Rattle.json.specs.Word.{number_before, literal, word}
 use Rattle.first_pass_json.specs.Scripts.{in_script}
 use Rattle.first_pass_json.proofs.Scripts.{in_script-other}
 

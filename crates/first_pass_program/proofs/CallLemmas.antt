@@ -1,5 +1,6 @@
 -- The matches of a call.
-use Rattle.std.proofs.Common.{◌≡◌, ◌∙◌, ℕ, List, [], ◌++◌, if◌then◌else◌, Bor, Option, Some, None, Result, Ok, Err, OnOk, is_ok, ap, codes, false, map, option_map, refl, subst, true, unwrap_or}
+use Rattle.std.proofs.Common.{◌≡◌, ◌∙◌, ℕ, List, [], ◌++◌, if◌then◌else◌, Bor, Option, Some, None, Result, Ok, Err, OnOk, is_ok, ap, codes, false, map}
+use Rattle.std.proofs.Common.{option_map, refl, subst, true, unwrap_or}
 use Rattle.std.proofs.lemmas.List.{map-append}
 use Rattle.std.specs.Option.{option_map_or}
 use Rattle.std.specs.Str.{bytes_eq}

@@ -1,5 +1,7 @@
 -- What words that name options mean.
-use Rattle.std.proofs.Common.{◌≡◌, ◌==◌, ◌<◌, append_assoc, ◌≤◌, ◌+◌, ◌∙◌, ◌↔◌, ◌||◌, ℕ, Bool, true, false, not, if◌then◌else◌, List, [], ◌∷◌, ◌++◌, Option, Some, None, Contains, Ok, Err, IfSome, IsSome, Bor, arith, rules, sym, ap, ap₂, true≢false, refl, subst, bit_and, length, map, take, get_or, option_map, nat_lt, codes}
+use Rattle.std.proofs.Common.{◌≡◌, ◌==◌, ◌<◌, append_assoc, ◌≤◌, ◌+◌, ◌∙◌, ◌↔◌, ◌||◌, ℕ, Bool, true, false, not, if◌then◌else◌, List, [], ◌∷◌, ◌++◌}
+use Rattle.std.proofs.Common.{Option, Some, None, Contains, Ok, Err, IfSome, IsSome, Bor, arith, rules, sym, ap, ap₂, true≢false, refl, subst, bit_and}
+use Rattle.std.proofs.Common.{length, map, take, get_or, option_map, nat_lt, codes}
 use Rattle.std.proofs.lemmas.Bool.Decides.{nat_tests}
 use Rattle.std.proofs.lemmas.List.{append-nil, flat_map_more, length_push, map-append, take_more}
 use Rattle.std.proofs.lemmas.List.Elements.{Contains-get_or, filter-append}

@@ -1,5 +1,6 @@
 -- The options that words name (this project).
-use Rattle.std.specs.Prelude.{◌≡◌, ◌==◌, ℕ, Bool, true, false, not, if◌then◌else◌, ◌||◌, List, [], ◌∷◌, Option, Some, None, Contains, bit_and, bit_or, codes, find, filter, fold, length, map, nat_lt, option_map}
+use Rattle.std.specs.Prelude.{◌≡◌, ◌==◌, ℕ, Bool, true, false, not, if◌then◌else◌, ◌||◌, List, [], ◌∷◌, Option, Some, None, Contains, bit_and, bit_or}
+use Rattle.std.specs.Prelude.{codes, find, filter, fold, length, map, nat_lt, option_map}
 use Rattle.std.specs.Char.{is_ascii_digit}
 use Rattle.std.specs.List.{join_by, list_all, slice_split}
 use Rattle.std.specs.Option.{option_map_or}

@@ -21,7 +21,8 @@ returns-in-Links-Text g c =
 
 pub returns-in-Tree : goal.returns-in-Tree
 returns-in-Tree g c =
-    runs_as _ c.args.shell.now.template.now (g.C.TimeSource.readings c.args.shell.now.clock) c.args.call.now (Tree c.in-Tree.lines c.in-Tree.text) c.args.names.now _ _ _
+    runs_as _ c.args.shell.now.template.now (g.C.TimeSource.readings c.args.shell.now.clock) c.args.call.now (Tree c.in-Tree.lines c.in-Tree.text)
+    c.args.names.now _ _ _
     c.in-Tree.is c.run_tree.ensures
 
 pub returns-in-Toc-Text : goal.returns-in-Toc-Text

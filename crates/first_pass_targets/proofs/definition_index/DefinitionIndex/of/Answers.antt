@@ -4,7 +4,8 @@ use Rattle.first_pass_targets.proofs.definition_index.DefinitionIndex.of.Goals a
 
 pub loop-label-preserved : goal.loop-label-preserved
 loop-label-preserved c = record {
-  part = one_more c.loop-label.firsts c.add_first.new.firsts c.loop-label.index _ _ _ _ _ c.in-Some.ensures.steps c.label.ensures c.in_ok-add_first.ensures c.loop-label.invariant.part;
+  part = one_more c.loop-label.firsts c.add_first.new.firsts c.loop-label.index _ _ _ _ _ c.in-Some.ensures.steps c.label.ensures
+      c.in_ok-add_first.ensures c.loop-label.invariant.part;
   size = omega (arith, ap length c.in-Some.ensures.steps, c.loop-label.invariant.size);
 }
 
