@@ -1,5 +1,5 @@
 -- A content that is being read grows.
-use Rattle.std.proofs.Common.{◌≡◌, ℕ, suc, ◌+◌, ◌-◌, ◌^◌, ◌<◌, ◌≤◌, min, List, [], ◌∷◌, ◌++◌, length, take, drop, refl, sym, ap}
+use Rattle.std.proofs.Common.{◌≡◌, ℕ, suc, ◌+◌, ◌-◌, ◌^◌, ◌<◌, min, List, [], ◌∷◌, ◌++◌, length, take, drop, refl, sym, ap}
 use Rattle.std.proofs.Common.{subst, ◌∙◌, arith, append_assoc, append-nil}
 use Rattle.std.proofs.lemmas.List.{length-append, length-drop, length_push, nil_from_length, take_min}
 use Rattle.std.proofs.lemmas.List.Edits.{between_none}
@@ -7,7 +7,7 @@ use Rattle.std.specs.List.{slice_range}
 use Rattle.first_pass_content.specs.Building.{IsContentWith, content_with}
 use Rattle.first_pass_content.specs.Content.{ContentByte, byte_in, copied, placed}
 use Rattle.first_pass_content.specs.Parts.{part}
-use Rattle.first_pass_content.specs.Runs.{AreAllRuns, AreRuns, Fits, content_in, empty_run, run_from, run_with}
+use Rattle.first_pass_content.specs.Runs.{AreRuns, Fits, content_in, empty_run, run_from, run_with}
 use Rattle.first_pass_content.specs.declared.run.Run.{Run}
 use Rattle.first_pass_content.proofs.Placed.{placed_both, slice_both}
 use Rattle.first_pass_content.proofs.RunLists.{content_more, length_content, run_is_placed, runs_more}
@@ -43,21 +43,6 @@ module _ (text bytes : List ℕ) (runs : List Run) (last : Run) (is : IsContentW
     size = copied_size more whole same are;
     value = ap (content_in whole) all_are ∙ copied_content more whole same are;
   }
-
-  pub closed_none : last.past ≤ last.place → IsClosed bytes runs last.past (content_with text bytes runs last)
-  closed_none none =
-      let at : last.place ≡ last.past = omega (arith, is.size) in
-      let empty : mine ≡ [] = nil_from_length mine (omega (arith, is.size)) in
-      record {
-        runs_are = subst (AreRuns 0 runs) at is.before;
-        size = sym at ∙ is.place;
-        value = sym (append-nil (content_in bytes runs)) ∙ ap (λ l. content_in bytes runs ++ placed last.start l) (sym empty);
-      }
-
-  -- the content is whole
-  pub whole_runs : (more whole : List ℕ) → more ≡ mine → whole ≡ bytes ++ more → AreAllRuns whole runs last
-  whole_runs more whole same are =
-      record { before = is.before; order = omega (arith, is.size); whole = copied_size more whole same are; fits = last_fits }
 
   pub none_copied : runs ≡ [] → bytes ≡ []
   none_copied none = nil_from_length bytes (let at = subst (λ l. AreRuns 0 l last.place) none is.before in omega (arith, at, is.place))
