@@ -10,6 +10,9 @@ import subprocess
 import sys
 
 TOP = pathlib.Path(__file__).resolve().parent.parent
+# How each check ends, for its help.
+ENDS = """Each fault is one line. The last line has what is counted, and the number of faults. The status is 1
+if there is a fault, and 2 if something can't be read."""
 
 
 def read(path):
@@ -64,12 +67,10 @@ def run_program(program, options, text):
 
 
 def run_check(check, description, word="TOP"):
-    """Runs a check of a repository, by default of this one, or of a program. It returns faults and what it has counted.
-
-    Prints each fault, and then a line with the counts. The status is 1 if there is a fault, and 2 if something can't be
-    read.
-    """
-    words = argparse.ArgumentParser(description=description, formatter_class=argparse.RawDescriptionHelpFormatter)
+    """Runs a check of a repository, or of a program. It returns faults and what it has counted."""
+    end = ("TOP is the repository, by default that of this script.\n" if word == "TOP" else "") + ENDS
+    layout = argparse.RawDescriptionHelpFormatter
+    words = argparse.ArgumentParser(description=description, epilog=end, formatter_class=layout)
     words.add_argument("it", metavar=word, nargs="?" if word == "TOP" else None, type=pathlib.Path, default=TOP)
     it = words.parse_args().it
     try:
