@@ -23,6 +23,7 @@ mod atoms;
 mod attributes;
 mod call;
 mod containers;
+mod contents;
 mod definitions;
 mod html;
 mod leaves;

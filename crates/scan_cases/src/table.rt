@@ -4,6 +4,7 @@ use crate::atoms::answer_atoms;
 use crate::attributes::answer_attributes;
 use crate::call::Call;
 use crate::containers::answer_containers;
+use crate::contents::answer_contents;
 use crate::definitions::answer_definitions;
 use crate::html::answer_html;
 use crate::leaves::{answer_leaves, answer_metadata};
@@ -124,6 +125,7 @@ fn answer_call(call: &Call<'_>, answer: &mut Answer) -> Result<bool, AllocError>
             || answer_definitions(call, answer)?
             || answer_walks(call, answer)?
             || answer_flanks(call, answer)?
-            || answer_atoms(call, answer)?,
+            || answer_atoms(call, answer)?
+            || answer_contents(call, answer)?,
     )
 }
