@@ -16,8 +16,8 @@ IS_AT(node, start, 0);
 IS_AT(node, end, 4);
 IS_AT(node, depth, 8);
 IS_AT(node, next, 12);
-IS_AT(node, name, 16);
-IS_AT(node, name_length, 20);
+IS_AT(node, string_start, 16);
+IS_AT(node, string_length, 20);
 IS_AT(node, number, 24);
 IS_AT(node, kind, 28);
 IS_AT(node, first, 29);
@@ -49,16 +49,16 @@ IS_AT(counts, nodes, 0);
 IS_AT(counts, attributes, 8);
 IS_AT(counts, definitions, 16);
 IS_AT(counts, links, 24);
-IS_AT(counts, names, 32);
+IS_AT(counts, string_bytes, 32);
 HAS_SIZE(counts, 40);
 IS_AT(arrays, nodes, 0);
-IS_AT(arrays, node_room, 8);
+IS_AT(arrays, node_capacity, 8);
 IS_AT(arrays, attributes, 16);
-IS_AT(arrays, attribute_room, 24);
+IS_AT(arrays, attribute_capacity, 24);
 IS_AT(arrays, definitions, 32);
-IS_AT(arrays, definition_room, 40);
-IS_AT(arrays, names, 48);
-IS_AT(arrays, name_room, 56);
+IS_AT(arrays, definition_capacity, 40);
+IS_AT(arrays, strings, 48);
+IS_AT(arrays, string_capacity, 56);
 HAS_SIZE(arrays, 64);
 IS_AT(range, start, 0);
 IS_AT(range, end, 8);
@@ -73,7 +73,7 @@ _Static_assert(sizeof(size_t) == 8, "the proved calls are compiled for 64 bits")
 #define SMALL_DEPTH 64
 /* How many bytes of a text may be dense markup, in the guess of what its tree takes. */
 #define DENSE_BYTES (UINT64_C(32) << 20)
-/* How long the folding of a label is that first_pass_find compares without memory. */
+/* How long the folding of a label is that first_pass_find_definition compares without memory. */
 #define SMALL_FOLDING 256
 /* How many bytes of a text are between two places of its table. */
 #define PLACE_STEP 256
@@ -141,7 +141,7 @@ void rattle_dealloc(void *block) {
     allocator->release(allocator->data, block);
 }
 
-/* The block of a tree: this, then the nodes, the definitions, the attributes and the names. */
+/* The block of a tree: this, then the nodes, the definitions, the attributes and the strings. */
 struct block {
     struct first_pass_tree tree;
     struct first_pass_allocator allocator;
@@ -152,12 +152,12 @@ struct layout {
     size_t nodes;
     size_t definitions;
     size_t attributes;
-    size_t names;
+    size_t strings;
     size_t end;
 };
 
-/* Adds room for records to the end of a block. False if no block can be as large. */
-static bool add_room(size_t *end, uint64_t count, size_t size) {
+/* Adds space for records to the end of a block. False if no block can be as large. */
+static bool add_space(size_t *end, uint64_t count, size_t size) {
     if (count > (PTRDIFF_MAX - *end) / size) {
         return false;
     }
@@ -165,22 +165,22 @@ static bool add_room(size_t *end, uint64_t count, size_t size) {
     return true;
 }
 
-static bool lay_out(struct layout *layout, const struct first_pass_counts *rooms) {
+static bool lay_out(struct layout *layout, const struct first_pass_counts *capacities) {
     size_t end = sizeof(struct block);
     layout->nodes = end;
-    if (!add_room(&end, rooms->nodes, sizeof(struct first_pass_node))) {
+    if (!add_space(&end, capacities->nodes, sizeof(struct first_pass_node))) {
         return false;
     }
     layout->definitions = end;
-    if (!add_room(&end, rooms->definitions, sizeof(struct first_pass_definition))) {
+    if (!add_space(&end, capacities->definitions, sizeof(struct first_pass_definition))) {
         return false;
     }
     layout->attributes = end;
-    if (!add_room(&end, rooms->attributes, sizeof(struct first_pass_attribute))) {
+    if (!add_space(&end, capacities->attributes, sizeof(struct first_pass_attribute))) {
         return false;
     }
-    layout->names = end;
-    if (!add_room(&end, rooms->names, 1)) {
+    layout->strings = end;
+    if (!add_space(&end, capacities->string_bytes, 1)) {
         return false;
     }
     layout->end = end;
@@ -188,28 +188,28 @@ static bool lay_out(struct layout *layout, const struct first_pass_counts *rooms
 }
 
 /*
- * The rooms that a text is first read into. They fit nearly all texts: prose has a node in 20 to 50 bytes, dense
- * markup and tables one in 5. What is left over is given back, and pages that nothing is written to take no memory.
- * Most of a very long text is taken for prose, since a system may refuse a block that is much larger than a tree
- * takes.
+ * The capacities that a text is first parsed with. They fit nearly all texts: prose has a node in 20 to 50 bytes,
+ * dense markup and tables one in 5. What is left over is given back, and pages that nothing is written to take no
+ * memory. Most of a very long text is taken for prose, since a system may refuse a block that is much larger than a
+ * tree takes.
  */
 static struct first_pass_counts guess(size_t length) {
-    struct first_pass_counts rooms = {0};
-    /* (a text that is too long is refused, whatever the rooms) */
+    struct first_pass_counts capacities = {0};
+    /* (a text that is too long is refused, whatever the capacities) */
     uint64_t bytes = length <= UINT32_MAX ? length : 0;
     uint64_t dense = bytes < DENSE_BYTES ? bytes : DENSE_BYTES;
-    rooms.nodes = dense / 16 * 3 + bytes / 16 + 32;
-    rooms.attributes = dense / 64 + 8;
-    rooms.definitions = dense / 64 + 8;
-    rooms.names = dense / 2 + bytes / 16 + 128;
-    return rooms;
+    capacities.nodes = dense / 16 * 3 + bytes / 16 + 32;
+    capacities.attributes = dense / 64 + 8;
+    capacities.definitions = dense / 64 + 8;
+    capacities.string_bytes = dense / 2 + bytes / 16 + 128;
+    return capacities;
 }
 
-uint32_t first_pass_read_arrays(const uint8_t *text, size_t length, uint32_t options,
-                                const struct first_pass_arrays *arrays, struct first_pass_counts *counts) {
-    return first_pass_read(text, length, options, arrays->nodes, arrays->node_room, arrays->attributes,
-                           arrays->attribute_room, arrays->definitions, arrays->definition_room, arrays->names,
-                           arrays->name_room, counts);
+uint32_t first_pass_parse_into_arrays(const uint8_t *text, size_t length, uint32_t options,
+                                      const struct first_pass_arrays *arrays, struct first_pass_counts *counts) {
+    return first_pass_parse_into(text, length, options, arrays->nodes, arrays->node_capacity, arrays->attributes,
+                                 arrays->attribute_capacity, arrays->definitions, arrays->definition_capacity,
+                                 arrays->strings, arrays->string_capacity, counts);
 }
 
 /* A text, with its options and the allocator for its tree. */
@@ -220,20 +220,20 @@ struct request {
     const struct first_pass_allocator *allocator;
 };
 
-/* Reads a text into the arrays of a block with these rooms, which become the counts. */
+/* Parses a text into the arrays of a block with these capacities, which become the counts. */
 static uint32_t read_into(const struct request *request, char *block, struct first_pass_counts *counts) {
     const struct first_pass_allocator *outer = current;
-    struct first_pass_counts rooms = *counts;
+    struct first_pass_counts capacities = *counts;
     struct layout at;
-    if (!lay_out(&at, &rooms)) {
+    if (!lay_out(&at, &capacities)) {
         return FIRST_PASS_OUT_OF_MEMORY;
     }
     current = request->allocator;
-    uint32_t status =
-        first_pass_read(request->text, request->length, request->options, (struct first_pass_node *)(block + at.nodes),
-                        rooms.nodes, (struct first_pass_attribute *)(block + at.attributes), rooms.attributes,
-                        (struct first_pass_definition *)(block + at.definitions), rooms.definitions,
-                        (uint8_t *)(block + at.names), rooms.names, counts);
+    uint32_t status = first_pass_parse_into(
+        request->text, request->length, request->options, (struct first_pass_node *)(block + at.nodes),
+        capacities.nodes, (struct first_pass_attribute *)(block + at.attributes), capacities.attributes,
+        (struct first_pass_definition *)(block + at.definitions), capacities.definitions,
+        (uint8_t *)(block + at.strings), capacities.string_bytes, counts);
     current = outer;
     return status;
 }
@@ -242,8 +242,8 @@ static uint32_t read_into(const struct request *request, char *block, struct fir
 static char *close_up(char *block, const struct layout *from, const struct layout *to,
                       const struct first_pass_allocator *allocator) {
     memmove(block + to->definitions, block + from->definitions, to->attributes - to->definitions);
-    memmove(block + to->attributes, block + from->attributes, to->names - to->attributes);
-    memmove(block + to->names, block + from->names, to->end - to->names);
+    memmove(block + to->attributes, block + from->attributes, to->strings - to->attributes);
+    memmove(block + to->strings, block + from->strings, to->end - to->strings);
     char *shrunk = to->end < from->end ? allocator->resize(allocator->data, block, to->end) : NULL;
     return shrunk != NULL ? shrunk : block;
 }
@@ -260,27 +260,27 @@ static struct first_pass_tree *make_tree(char *memory, const struct layout *at, 
     block->tree.definitions = (const struct first_pass_definition *)(memory + at->definitions);
     block->tree.definition_count = counts->definitions;
     block->tree.link_count = counts->links;
-    block->tree.names = memory + at->names;
-    block->tree.name_bytes = counts->names;
+    block->tree.strings = memory + at->strings;
+    block->tree.string_bytes = counts->string_bytes;
     return &block->tree;
 }
 
-/* Reads a text into a new block with these rooms. If they are too small, they become those that it takes. */
-static uint32_t read_once(const struct request *request, struct first_pass_counts *rooms,
+/* Parses a text into a new block with these capacities. If they are too small, they become those that it takes. */
+static uint32_t read_once(const struct request *request, struct first_pass_counts *capacities,
                           struct first_pass_tree **tree) {
     const struct first_pass_allocator *allocator = request->allocator;
     struct layout from, to;
-    if (!lay_out(&from, rooms)) {
+    if (!lay_out(&from, capacities)) {
         return FIRST_PASS_OUT_OF_MEMORY;
     }
     char *block = allocator->allocate(allocator->data, from.end);
     if (block == NULL) {
         return FIRST_PASS_OUT_OF_MEMORY;
     }
-    uint32_t status = read_into(request, block, rooms);
-    if (status == FIRST_PASS_OK && lay_out(&to, rooms)) {
+    uint32_t status = read_into(request, block, capacities);
+    if (status == FIRST_PASS_OK && lay_out(&to, capacities)) {
         block = close_up(block, &from, &to, allocator);
-        *tree = make_tree(block, &to, rooms, allocator);
+        *tree = make_tree(block, &to, capacities, allocator);
     } else {
         allocator->release(allocator->data, block);
     }
@@ -291,11 +291,11 @@ enum first_pass_status first_pass_parse(const char *text, size_t length, uint32_
                                         const struct first_pass_allocator *allocator, struct first_pass_tree **tree) {
     struct request request = {(const uint8_t *)(text != NULL ? text : ""), length, options,
                               allocator != NULL ? allocator : &standard};
-    struct first_pass_counts rooms = guess(length);
+    struct first_pass_counts capacities = guess(length);
     *tree = NULL;
-    uint32_t status = read_once(&request, &rooms, tree);
+    uint32_t status = read_once(&request, &capacities, tree);
     if (status == FIRST_PASS_TOO_SMALL) {
-        status = read_once(&request, &rooms, tree);
+        status = read_once(&request, &capacities, tree);
     }
     return (enum first_pass_status)status;
 }
@@ -348,9 +348,9 @@ static uint32_t fold(struct folding *folding, const struct first_pass_allocator 
     current = allocator;
     uint32_t status = first_pass_fold(label, length, folding->bytes, SMALL_FOLDING, &folding->length);
     if (status == FIRST_PASS_TOO_SMALL) {
-        size_t room = folding->length;
-        folding->bytes = allocator->allocate(allocator->data, room);
-        status = folding->bytes != NULL ? first_pass_fold(label, length, folding->bytes, room, &folding->length)
+        size_t capacity = folding->length;
+        folding->bytes = allocator->allocate(allocator->data, capacity);
+        status = folding->bytes != NULL ? first_pass_fold(label, length, folding->bytes, capacity, &folding->length)
                                         : (uint32_t)FIRST_PASS_OUT_OF_MEMORY;
         if (folding->bytes != NULL && status != FIRST_PASS_OK) {
             end_folding(folding);
@@ -368,7 +368,7 @@ static uint32_t compare(const struct folding *wanted, const struct first_pass_tr
     const struct first_pass_definition *definition = &tree->definitions[i];
     struct folding other;
     uint32_t status =
-        fold(&other, wanted->allocator, (const uint8_t *)tree->names + definition->label, definition->label_length);
+        fold(&other, wanted->allocator, (const uint8_t *)tree->strings + definition->label, definition->label_length);
     if (status != FIRST_PASS_OK) {
         return status;
     }
@@ -405,8 +405,8 @@ static uint32_t search(const struct folding *wanted, const struct first_pass_tre
     return FIRST_PASS_OK;
 }
 
-enum first_pass_status first_pass_find(const struct first_pass_tree *tree, const char *label, size_t length,
-                                       const struct first_pass_definition **found) {
+enum first_pass_status first_pass_find_definition(const struct first_pass_tree *tree, const char *label, size_t length,
+                                                  const struct first_pass_definition **found) {
     struct folding wanted;
     *found = NULL;
     uint32_t status = fold(&wanted, allocator_of(tree), (const uint8_t *)(label != NULL ? label : ""), length);

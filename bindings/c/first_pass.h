@@ -18,7 +18,8 @@
  * may be freed as soon as the call returns. first_pass_places() and first_pass_line_column() give the line and the
  * column of an offset.
  *
- * first_pass_read(), first_pass_fold() and first_pass_name_range() are proved. The other calls are C, and are tested.
+ * first_pass_parse_into(), first_pass_fold() and first_pass_string_range() are proved. The other calls are C, and are
+ * tested.
  *
  * No call prints, ends the process or keeps state. Any number of calls may run at the same time, and a tree may be
  * read in any number of threads. A call may not be made from a signal handler.
@@ -77,7 +78,7 @@ enum first_pass_status {
     FIRST_PASS_OUT_OF_MEMORY = 1, /**< a request for memory was refused */
     FIRST_PASS_NOT_UTF8 = 2,      /**< the text is not UTF-8 */
     FIRST_PASS_BAD_OPTIONS = 3,   /**< a bit of the options stands for no option */
-    FIRST_PASS_TOO_SMALL = 4,     /**< only of first_pass_read() and first_pass_fold(): an array is too short */
+    FIRST_PASS_TOO_SMALL = 4,     /**< only of calls that fill arrays of the caller: an array is too short */
     FIRST_PASS_TOO_LONG = 5       /**< the text has 4 GiB or more, or a number of a node takes more than 32 bits */
 };
 
@@ -85,53 +86,65 @@ enum first_pass_status {
  * Kinds of nodes. A number never changes, and new kinds come after the last one. A reader takes a node of a kind that
  * it doesn't know as one without values.
  *
- * Each comment says which members of struct first_pass_node have a meaning for the kind, besides the range, `depth`
- * and `next`. All others are 0, except `name`, which has a meaning only if `name_length` isn't 0. A truth value is 0
- * or 1.
+ * Each comment says which values a node of the kind has, besides its range, and how they are read. A call that is
+ * named like a kind reads a value of that kind: first_pass_list_is_tight() that of a list. A string is read by
+ * first_pass_node_string().
  */
 enum first_pass_kind {
     FIRST_PASS_NODE_ROOT = 0,
     FIRST_PASS_NODE_PARAGRAPH = 1,
     FIRST_PASS_NODE_TIGHT_PARAGRAPH = 2, /**< a paragraph directly in an item or a definition of a tight list */
     FIRST_PASS_NODE_RULE = 3,
-    /** `first`: the level; `second`: whether it has an attribute block; `name`, `name_length`: its attributes */
+    /**
+     * first_pass_heading_level(), first_pass_heading_has_attribute_block(), first_pass_heading_attributes(),
+     * first_pass_heading_attribute_count()
+     */
     FIRST_PASS_NODE_HEADING = 4,
-    FIRST_PASS_NODE_FENCED_CODE_BLOCK = 5, /**< names its info string */
+    FIRST_PASS_NODE_FENCED_CODE_BLOCK = 5, /**< the string is its info string */
     FIRST_PASS_NODE_INDENT_CODE_BLOCK = 6,
     FIRST_PASS_NODE_HTML_BLOCK = 7,
-    FIRST_PASS_NODE_BLOCK_QUOTE = 8, /**< `first`: enum first_pass_quote */
-    /** `first`: whether it is tight; `second`: the byte of its markers; `number`: its first number */
+    FIRST_PASS_NODE_BLOCK_QUOTE = 8, /**< first_pass_block_quote_kind() */
+    /** first_pass_list_is_tight(), first_pass_list_byte(), first_pass_list_number() */
     FIRST_PASS_NODE_LIST = 9,
-    FIRST_PASS_NODE_LIST_ITEM = 10,                   /**< `number`: how many columns a line needs to continue it */
-    FIRST_PASS_NODE_FOOTNOTE_DEFINITION = 11,         /**< names its label */
-    FIRST_PASS_NODE_METADATA_BLOCK = 12,              /**< `first`: 0 between `---`, 1 between `+++` */
-    FIRST_PASS_NODE_DEFINITION_LIST = 13,             /**< `first`: whether it is tight */
+    FIRST_PASS_NODE_LIST_ITEM = 10,                   /**< first_pass_list_item_columns() */
+    FIRST_PASS_NODE_FOOTNOTE_DEFINITION = 11,         /**< the string is its label */
+    FIRST_PASS_NODE_METADATA_BLOCK = 12,              /**< first_pass_metadata_block_has_pluses() */
+    FIRST_PASS_NODE_DEFINITION_LIST = 13,             /**< first_pass_definition_list_is_tight() */
     FIRST_PASS_NODE_MAYBE_DEFINITION_LIST_TITLE = 14, /**< in no tree that a call returns */
     FIRST_PASS_NODE_DEFINITION_LIST_TITLE = 15,
-    FIRST_PASS_NODE_DEFINITION_LIST_DEFINITION = 16, /**< `number`: how many columns a line needs to continue it */
-    /** names a byte for each column: `-` not aligned, `l` left, `c` centered, `r` right */
+    FIRST_PASS_NODE_DEFINITION_LIST_DEFINITION = 16, /**< first_pass_definition_list_definition_columns() */
+    /** the string has a byte for each column: `-` not aligned, `l` left, `c` centered, `r` right */
     FIRST_PASS_NODE_TABLE = 17,
     FIRST_PASS_NODE_TABLE_HEAD = 18,
     FIRST_PASS_NODE_TABLE_ROW = 19,
     FIRST_PASS_NODE_TABLE_CELL = 20,
-    FIRST_PASS_NODE_TEXT = 21, /**< `first`: whether a backslash before it was dropped */
+    FIRST_PASS_NODE_TEXT = 21, /**< first_pass_text_is_escaped() */
     FIRST_PASS_NODE_SOFT_BREAK = 22,
-    FIRST_PASS_NODE_HARD_BREAK = 23, /**< `first`: whether a backslash makes it */
-    /** `number`: how many delimiters of the run are left, this one counted; `first`, `second`: can open, can close */
+    FIRST_PASS_NODE_HARD_BREAK = 23, /**< first_pass_hard_break_is_by_backslash() */
+    /**
+     * first_pass_maybe_emphasis_remaining(), first_pass_maybe_emphasis_can_open(),
+     * first_pass_maybe_emphasis_can_close()
+     */
     FIRST_PASS_NODE_MAYBE_EMPHASIS = 24,
-    /** `number`: its brace context; `first`, `second`: can open, can close */
+    /**
+     * first_pass_maybe_math_context(), first_pass_maybe_math_can_open(),
+     * first_pass_maybe_math_can_close()
+     */
     FIRST_PASS_NODE_MAYBE_MATH = 25,
-    /** `second`: its byte; `first`, `third`: can open, can close */
+    /**
+     * first_pass_maybe_smart_quote_byte(), first_pass_maybe_smart_quote_can_open(),
+     * first_pass_maybe_smart_quote_can_close()
+     */
     FIRST_PASS_NODE_MAYBE_SMART_QUOTE = 26,
-    FIRST_PASS_NODE_MAYBE_CODE = 27, /**< `number`: how many backquotes; `first`: whether a backslash precedes them */
+    FIRST_PASS_NODE_MAYBE_CODE = 27, /**< first_pass_maybe_code_count(), first_pass_maybe_code_is_escaped() */
     FIRST_PASS_NODE_MAYBE_HTML = 28,
     FIRST_PASS_NODE_MAYBE_LINK_OPEN = 29,
-    FIRST_PASS_NODE_MAYBE_LINK_CLOSE = 30, /**< `first`: whether it is active: 1 in each tree of this version */
+    FIRST_PASS_NODE_MAYBE_LINK_CLOSE = 30, /**< first_pass_maybe_link_close_is_active() */
     FIRST_PASS_NODE_MAYBE_IMAGE = 31,
     FIRST_PASS_NODE_HTML = 32,
-    FIRST_PASS_NODE_SYNTHESIZE_TEXT = 33, /**< names the text that stands for the bytes of its range */
-    FIRST_PASS_NODE_SYNTHESIZE_CHAR = 34, /**< `number`: the character that stands for the bytes of its range */
-    FIRST_PASS_NODE_TASK_LIST_MARKER = 35 /**< `first`: whether it is checked */
+    FIRST_PASS_NODE_SYNTHESIZE_TEXT = 33, /**< the string stands for the bytes of its range */
+    FIRST_PASS_NODE_SYNTHESIZE_CHAR = 34, /**< first_pass_synthesize_char_character() */
+    FIRST_PASS_NODE_TASK_LIST_MARKER = 35 /**< first_pass_task_list_marker_is_checked() */
 };
 
 /** The kind that a tag gives a block quote. */
@@ -145,22 +158,27 @@ enum first_pass_quote {
 };
 
 /**
- * A node: 32 bytes, on every machine. Nodes stand in reading order, and the first one is the root. Siblings never
- * overlap, and a node lies within its parent. There is one exception: a task list item marker may come before the
- * start of the paragraph, the heading or the title that it is the first child of.
+ * A node: 32 bytes, on every machine. Nodes stand in reading order, and the first one is the root.
+ *
+ * Ranges nest: siblings never overlap, and a node lies within its parent. There is one exception: a task list item
+ * marker may start before the paragraph, the heading or the title of a definition list that it is the first child of.
+ * It then lies in the same list item.
+ *
+ * The values of a kind are read by the calls that enum first_pass_kind names. `number`, `first`, `second` and `third`
+ * hold them. Those that a kind doesn't use are 0.
  */
 struct first_pass_node {
-    uint32_t start; /**< the range in the text: its first byte */
-    uint32_t end;   /**< and the byte after its last one */
-    uint32_t depth; /**< how many nodes it lies in: 0 for the root */
-    uint32_t next;  /**< the index of the first later node that is not deeper, or the number of nodes */
-    uint32_t name;  /**< the offset of what it names in the names; of a heading, the index of its first attribute */
-    uint32_t name_length; /**< how many bytes it names; of a heading, how many attributes it has */
-    uint32_t number;      /**< see enum first_pass_kind */
-    uint8_t kind;         /**< enum first_pass_kind, or a newer kind */
-    uint8_t first;        /**< see enum first_pass_kind */
-    uint8_t second;       /**< see enum first_pass_kind */
-    uint8_t third;        /**< see enum first_pass_kind */
+    uint32_t start;         /**< the range in the text: its first byte */
+    uint32_t end;           /**< and the byte after its last one */
+    uint32_t depth;         /**< how many nodes it lies in: 0 for the root */
+    uint32_t next;          /**< the index of the first later node that is not deeper, or the number of nodes */
+    uint32_t string_start;  /**< its string's offset in the strings; of a heading, the index of its first attribute */
+    uint32_t string_length; /**< how many bytes its string has; of a heading, how many attributes it has */
+    uint32_t number;        /**< a number that the kind has */
+    uint8_t kind;           /**< enum first_pass_kind, or a newer kind */
+    uint8_t first;          /**< a small value that the kind has */
+    uint8_t second;         /**< another one */
+    uint8_t third;          /**< and another one */
 };
 
 /** What an attribute of a heading is. */
@@ -172,9 +190,9 @@ enum first_pass_attribute_kind {
 
 /** An attribute of a heading: 40 bytes. Those of a heading stand together: its id, its classes, its keys. */
 struct first_pass_attribute {
-    uint64_t name;         /**< the offset of the id, the class or the key in the names */
+    uint64_t name;         /**< the offset of the id, the class or the key in the strings */
     uint64_t name_length;  /**< its length */
-    uint64_t value;        /**< the offset of the key's value in the names */
+    uint64_t value;        /**< the offset of the key's value in the strings */
     uint64_t value_length; /**< its length */
     uint32_t has_value;    /**< whether the key has a value, which may be empty */
     uint32_t kind;         /**< enum first_pass_attribute_kind */
@@ -188,11 +206,11 @@ struct first_pass_attribute {
 struct first_pass_definition {
     uint64_t start;              /**< the range in the text: its first byte */
     uint64_t end;                /**< and the byte after its last one */
-    uint64_t label;              /**< the offset of the label, as it is spelled, in the names */
+    uint64_t label;              /**< the offset of the label, as it is spelled, in the strings */
     uint64_t label_length;       /**< its length */
-    uint64_t destination;        /**< the offset of the destination in the names */
+    uint64_t destination;        /**< the offset of the destination in the strings */
     uint64_t destination_length; /**< its length */
-    uint64_t title;              /**< the offset of the title in the names */
+    uint64_t title;              /**< the offset of the title in the strings */
     uint64_t title_length;       /**< its length */
     uint64_t has_title;          /**< whether there is a title, which may be empty */
     uint64_t label_end;          /**< the offset in the text of the `]` after the label */
@@ -203,69 +221,70 @@ struct first_pass_definition {
 
 /** How many records a tree takes: 40 bytes. */
 struct first_pass_counts {
-    uint64_t nodes;       /**< nodes, with the root */
-    uint64_t attributes;  /**< attributes of all headings */
-    uint64_t definitions; /**< link definitions and labels of footnotes */
-    uint64_t links;       /**< link definitions, which stand before the labels of footnotes */
-    uint64_t names;       /**< bytes of the names */
+    uint64_t nodes;        /**< nodes, with the root */
+    uint64_t attributes;   /**< attributes of all headings */
+    uint64_t definitions;  /**< link definitions and labels of footnotes */
+    uint64_t links;        /**< link definitions, which stand before the labels of footnotes */
+    uint64_t string_bytes; /**< bytes of the strings */
 };
 
 /**
- * @brief Reads a text into memory of the caller. This call is proved.
+ * @brief Parses a text into arrays of the caller. This call is proved.
  *
  * It is for callers that use memory again, and for other languages. first_pass_parse() does the same with memory of
  * its own.
  *
- * Each array is given with its room, which is how many records it can hold. No two arrays may overlap, and none may
- * overlap the text. The pointers may not be NULL and have to be aligned, even if a room is 0.
+ * Each array is given with its capacity, which is how many records it can hold. No two arrays may overlap, and none
+ * may overlap the text. The pointers may not be NULL and have to be aligned, even if a capacity is 0.
  *
  * @param[in] text bytes of UTF-8
  * @param[in] length how many there are
  * @param[in] options values of enum first_pass_option, joined by `|`
  * @param[out] nodes the nodes
- * @param[in] node_room how many it can hold
+ * @param[in] node_capacity how many it can hold
  * @param[out] attributes the attributes of all headings
- * @param[in] attribute_room how many it can hold
+ * @param[in] attribute_capacity how many it can hold
  * @param[out] definitions the link definitions and, after them, the labels of footnotes, both sorted by folding
- * @param[in] definition_room how many it can hold
- * @param[out] names the bytes that the records name
- * @param[in] name_room how many it can hold
+ * @param[in] definition_capacity how many it can hold
+ * @param[out] strings the bytes of all strings, without a NUL after one
+ * @param[in] string_capacity how many bytes it can hold
  * @param[out] counts at FIRST_PASS_OK how many records were written; at FIRST_PASS_TOO_SMALL how many there are
  * @return enum first_pass_status. At FIRST_PASS_OK nothing is changed in an array after the records that were written.
  *     At FIRST_PASS_TOO_LONG the arrays may hold anything; at any other status they are unchanged.
  */
-FIRST_PASS_API uint32_t first_pass_read(const uint8_t *text, size_t length, uint32_t options,
-                                        struct first_pass_node *nodes, size_t node_room,
-                                        struct first_pass_attribute *attributes, size_t attribute_room,
-                                        struct first_pass_definition *definitions, size_t definition_room,
-                                        uint8_t *names, size_t name_room, struct first_pass_counts *counts);
+FIRST_PASS_API uint32_t first_pass_parse_into(const uint8_t *text, size_t length, uint32_t options,
+                                              struct first_pass_node *nodes, size_t node_capacity,
+                                              struct first_pass_attribute *attributes, size_t attribute_capacity,
+                                              struct first_pass_definition *definitions, size_t definition_capacity,
+                                              uint8_t *strings, size_t string_capacity,
+                                              struct first_pass_counts *counts);
 
-/** The arrays of first_pass_read(), each with its room: 64 bytes. */
+/** The arrays of first_pass_parse_into(), each with its capacity: 64 bytes. */
 struct first_pass_arrays {
     struct first_pass_node *nodes;             /**< for the nodes */
-    size_t node_room;                          /**< how many nodes it can hold */
+    size_t node_capacity;                      /**< how many nodes it can hold */
     struct first_pass_attribute *attributes;   /**< for the attributes of all headings */
-    size_t attribute_room;                     /**< how many attributes it can hold */
+    size_t attribute_capacity;                 /**< how many attributes it can hold */
     struct first_pass_definition *definitions; /**< for the link definitions and the labels of footnotes */
-    size_t definition_room;                    /**< how many definitions and labels it can hold */
-    uint8_t *names;                            /**< for the bytes that the records name */
-    size_t name_room;                          /**< how many bytes it can hold */
+    size_t definition_capacity;                /**< how many definitions and labels it can hold */
+    uint8_t *strings;                          /**< for the bytes of all strings */
+    size_t string_capacity;                    /**< how many bytes it can hold */
 };
 
 /**
- * @brief Reads a text into arrays that are used for many texts. It does the same as first_pass_read() with fewer
- * arguments, each of which takes time in some languages.
+ * @brief Parses a text into arrays that are used for many texts. It does the same as first_pass_parse_into() with
+ * fewer arguments, each of which takes time in some languages.
  *
  * @param[in] text bytes of UTF-8
  * @param[in] length how many there are
  * @param[in] options values of enum first_pass_option, joined by `|`
- * @param[in] arrays the arrays and their rooms, as for first_pass_read()
- * @param[out] counts as for first_pass_read()
- * @return enum first_pass_status, as for first_pass_read()
+ * @param[in] arrays the arrays and their capacities, as for first_pass_parse_into()
+ * @param[out] counts as for first_pass_parse_into()
+ * @return enum first_pass_status, as for first_pass_parse_into()
  */
-FIRST_PASS_API uint32_t first_pass_read_arrays(const uint8_t *text, size_t length, uint32_t options,
-                                               const struct first_pass_arrays *arrays,
-                                               struct first_pass_counts *counts);
+FIRST_PASS_API uint32_t first_pass_parse_into_arrays(const uint8_t *text, size_t length, uint32_t options,
+                                                     const struct first_pass_arrays *arrays,
+                                                     struct first_pass_counts *counts);
 
 /**
  * @brief Writes the case folding of a label, by which labels match and link definitions are sorted. This call is
@@ -273,13 +292,13 @@ FIRST_PASS_API uint32_t first_pass_read_arrays(const uint8_t *text, size_t lengt
  *
  * @param[in] label bytes of UTF-8; not NULL, even if there are none
  * @param[in] length how many there are
- * @param[out] folded the folding; not NULL, even without room
- * @param[in] room how many bytes it can hold
+ * @param[out] folded the folding; not NULL, even if `capacity` is 0
+ * @param[in] capacity how many bytes it can hold
  * @param[out] folded_length how many bytes the folding has, at FIRST_PASS_OK and at FIRST_PASS_TOO_SMALL
  * @return FIRST_PASS_OK, FIRST_PASS_OUT_OF_MEMORY, FIRST_PASS_NOT_UTF8 or FIRST_PASS_TOO_SMALL. At each but
  *     FIRST_PASS_OK the array is unchanged.
  */
-FIRST_PASS_API uint32_t first_pass_fold(const uint8_t *label, size_t length, uint8_t *folded, size_t room,
+FIRST_PASS_API uint32_t first_pass_fold(const uint8_t *label, size_t length, uint8_t *folded, size_t capacity,
                                         size_t *folded_length);
 
 /** A range of a text: 16 bytes. */
@@ -289,7 +308,7 @@ struct first_pass_range {
 };
 
 /**
- * @brief Finds where a text has what a node names. This call is proved.
+ * @brief Finds where a text has the string of a node, or the attributes of a heading. This call is proved.
  *
  * Of a fenced code block it is the info string, of a footnote definition the label, and of a heading what is between
  * the braces of its attribute block. The range has the bytes as they are written, with escapes and references. A label
@@ -300,10 +319,11 @@ struct first_pass_range {
  * @param[in] length how many bytes it has
  * @param[in] node a node of its tree
  * @param[out] range the range, which may be empty; unchanged if 0 is returned
- * @return 1; or 0 if the node names nothing that the text has, or if the node's own range is not in the text
+ * @return 1; or 0 for a node of another kind, for a heading without an attribute block, or if the node's own range is
+ *     not in the text
  */
-FIRST_PASS_API uint32_t first_pass_name_range(const char *text, size_t length, const struct first_pass_node *node,
-                                              struct first_pass_range *range);
+FIRST_PASS_API uint32_t first_pass_string_range(const char *text, size_t length, const struct first_pass_node *node,
+                                                struct first_pass_range *range);
 
 /** A place in a text, as people and editors count: 24 bytes. Lines and columns are counted from 1. */
 struct first_pass_place {
@@ -366,8 +386,8 @@ static inline size_t first_pass_bom_length(const char *text, size_t length) {
  *
  * The functions are called only in the thread of a call that was given this allocator, or a tree made with it, and
  * only while that call runs. If threads share such a tree, several may call them at once. They have to return: neither
- * longjmp nor an exception may leave them. They may call this library. Then first_pass_read() and first_pass_fold()
- * take their memory from them too.
+ * longjmp nor an exception may leave them. They may call this library. Then first_pass_parse_into() and
+ * first_pass_fold() take their memory from them too.
  */
 struct first_pass_allocator {
     /** Returns a block of at least `bytes` bytes, which are not 0, aligned to 16; or NULL, which refuses. */
@@ -390,12 +410,12 @@ struct first_pass_tree {
     const struct first_pass_definition *definitions; /**< link definitions, then labels of footnotes, both sorted */
     size_t definition_count;                         /**< how many both are */
     size_t link_count;                               /**< how many link definitions there are */
-    const char *names;                               /**< the bytes that are named: UTF-8, with no NUL after a name */
-    size_t name_bytes;                               /**< how many there are */
+    const char *strings;                             /**< the bytes of all strings: UTF-8, with no NUL after one */
+    size_t string_bytes;                             /**< how many there are */
 };
 
 /**
- * @brief Reads a text into a new tree.
+ * @brief Parses a text into a new tree.
  *
  * @param[in] text bytes of UTF-8; may be NULL if `length` is 0
  * @param[in] length how many there are
@@ -427,8 +447,9 @@ FIRST_PASS_API void first_pass_tree_free(struct first_pass_tree *tree);
  * @param[out] found the definition, which lives as long as the tree; NULL if there is none, or at another status
  * @return FIRST_PASS_OK, even if there is none; FIRST_PASS_NOT_UTF8; or FIRST_PASS_OUT_OF_MEMORY
  */
-FIRST_PASS_API enum first_pass_status first_pass_find(const struct first_pass_tree *tree, const char *label,
-                                                      size_t length, const struct first_pass_definition **found);
+FIRST_PASS_API enum first_pass_status first_pass_find_definition(const struct first_pass_tree *tree, const char *label,
+                                                                 size_t length,
+                                                                 const struct first_pass_definition **found);
 
 /** A function that is called with a node, and with what first_pass_walk() was given for it. */
 typedef int first_pass_visit(const struct first_pass_node *node, void *data);
@@ -467,20 +488,162 @@ FIRST_PASS_API const char *first_pass_status_message(uint32_t status);
 FIRST_PASS_API const char *first_pass_version(void);
 
 /**
- * @brief The bytes that a node names: `name_length` of them. Of a heading, which names attributes, NULL.
+ * @brief The string of a node: `string_length` bytes, and no NUL after them. NULL for a heading, which has attributes.
  */
-static inline const char *first_pass_node_name(const struct first_pass_tree *tree,
-                                               const struct first_pass_node *node) {
-    return node->kind == FIRST_PASS_NODE_HEADING ? NULL : tree->names + node->name;
+static inline const char *first_pass_node_string(const struct first_pass_tree *tree,
+                                                 const struct first_pass_node *node) {
+    return node->kind == FIRST_PASS_NODE_HEADING ? NULL : tree->strings + node->string_start;
 }
 
 /**
- * @brief The attributes of a heading: `name_length` of them. NULL for a node without any.
+ * @name The values of a kind
+ * Each of these calls is named like the kind that it reads, and returns 0 or NULL for a node of another kind. A truth
+ * value is 0 or 1.
+ * @{
  */
-static inline const struct first_pass_attribute *first_pass_node_attributes(const struct first_pass_tree *tree,
-                                                                            const struct first_pass_node *node) {
-    return node->kind == FIRST_PASS_NODE_HEADING && node->name_length ? tree->attributes + node->name : NULL;
+
+/** @brief The level of a heading, 1 to 6. */
+static inline int first_pass_heading_level(const struct first_pass_node *node) {
+    return node->kind == FIRST_PASS_NODE_HEADING ? node->first : 0;
 }
+
+/** @brief Whether a heading has an attribute block, which may be empty as `{}`. */
+static inline int first_pass_heading_has_attribute_block(const struct first_pass_node *node) {
+    return node->kind == FIRST_PASS_NODE_HEADING ? node->second : 0;
+}
+
+/** @brief How many attributes a heading has. */
+static inline uint32_t first_pass_heading_attribute_count(const struct first_pass_node *node) {
+    return node->kind == FIRST_PASS_NODE_HEADING ? node->string_length : 0;
+}
+
+/** @brief The attributes of a heading; NULL if it has none. */
+static inline const struct first_pass_attribute *first_pass_heading_attributes(const struct first_pass_tree *tree,
+                                                                               const struct first_pass_node *node) {
+    return first_pass_heading_attribute_count(node) > 0 ? tree->attributes + node->string_start : NULL;
+}
+
+/** @brief The kind that a tag gives a block quote: enum first_pass_quote. */
+static inline int first_pass_block_quote_kind(const struct first_pass_node *node) {
+    return node->kind == FIRST_PASS_NODE_BLOCK_QUOTE ? node->first : 0;
+}
+
+/** @brief Whether a list is tight. */
+static inline int first_pass_list_is_tight(const struct first_pass_node *node) {
+    return node->kind == FIRST_PASS_NODE_LIST ? node->first : 0;
+}
+
+/** @brief The byte of a list's markers: `-`, `+` or `*`; `.` or `)` after numbers. */
+static inline char first_pass_list_byte(const struct first_pass_node *node) {
+    return node->kind == FIRST_PASS_NODE_LIST ? (char)node->second : '\0';
+}
+
+/** @brief The first number of a list; 0 of one without numbers. */
+static inline uint32_t first_pass_list_number(const struct first_pass_node *node) {
+    return node->kind == FIRST_PASS_NODE_LIST ? node->number : 0;
+}
+
+/** @brief How many columns a line needs to continue a list item. */
+static inline uint32_t first_pass_list_item_columns(const struct first_pass_node *node) {
+    return node->kind == FIRST_PASS_NODE_LIST_ITEM ? node->number : 0;
+}
+
+/** @brief Whether a metadata block is between `+++`, and not between `---`. */
+static inline int first_pass_metadata_block_has_pluses(const struct first_pass_node *node) {
+    return node->kind == FIRST_PASS_NODE_METADATA_BLOCK ? node->first : 0;
+}
+
+/** @brief Whether a definition list is tight. */
+static inline int first_pass_definition_list_is_tight(const struct first_pass_node *node) {
+    return node->kind == FIRST_PASS_NODE_DEFINITION_LIST ? node->first : 0;
+}
+
+/** @brief How many columns a line needs to continue a definition of a definition list. */
+static inline uint32_t first_pass_definition_list_definition_columns(const struct first_pass_node *node) {
+    return node->kind == FIRST_PASS_NODE_DEFINITION_LIST_DEFINITION ? node->number : 0;
+}
+
+/** @brief Whether a backslash before a text was dropped. */
+static inline int first_pass_text_is_escaped(const struct first_pass_node *node) {
+    return node->kind == FIRST_PASS_NODE_TEXT ? node->first : 0;
+}
+
+/** @brief Whether a backslash makes a hard break, and not spaces. */
+static inline int first_pass_hard_break_is_by_backslash(const struct first_pass_node *node) {
+    return node->kind == FIRST_PASS_NODE_HARD_BREAK ? node->first : 0;
+}
+
+/** @brief How many delimiters of a run are left, this one counted. */
+static inline uint32_t first_pass_maybe_emphasis_remaining(const struct first_pass_node *node) {
+    return node->kind == FIRST_PASS_NODE_MAYBE_EMPHASIS ? node->number : 0;
+}
+
+/** @brief Whether a delimiter of emphasis can open. */
+static inline int first_pass_maybe_emphasis_can_open(const struct first_pass_node *node) {
+    return node->kind == FIRST_PASS_NODE_MAYBE_EMPHASIS ? node->first : 0;
+}
+
+/** @brief Whether a delimiter of emphasis can close. */
+static inline int first_pass_maybe_emphasis_can_close(const struct first_pass_node *node) {
+    return node->kind == FIRST_PASS_NODE_MAYBE_EMPHASIS ? node->second : 0;
+}
+
+/** @brief The brace context of a dollar sign. */
+static inline uint32_t first_pass_maybe_math_context(const struct first_pass_node *node) {
+    return node->kind == FIRST_PASS_NODE_MAYBE_MATH ? node->number : 0;
+}
+
+/** @brief Whether a dollar sign can open. */
+static inline int first_pass_maybe_math_can_open(const struct first_pass_node *node) {
+    return node->kind == FIRST_PASS_NODE_MAYBE_MATH ? node->first : 0;
+}
+
+/** @brief Whether a dollar sign can close. */
+static inline int first_pass_maybe_math_can_close(const struct first_pass_node *node) {
+    return node->kind == FIRST_PASS_NODE_MAYBE_MATH ? node->second : 0;
+}
+
+/** @brief The byte of a quotation mark. */
+static inline char first_pass_maybe_smart_quote_byte(const struct first_pass_node *node) {
+    return node->kind == FIRST_PASS_NODE_MAYBE_SMART_QUOTE ? (char)node->second : '\0';
+}
+
+/** @brief Whether a quotation mark can open. */
+static inline int first_pass_maybe_smart_quote_can_open(const struct first_pass_node *node) {
+    return node->kind == FIRST_PASS_NODE_MAYBE_SMART_QUOTE ? node->first : 0;
+}
+
+/** @brief Whether a quotation mark can close. */
+static inline int first_pass_maybe_smart_quote_can_close(const struct first_pass_node *node) {
+    return node->kind == FIRST_PASS_NODE_MAYBE_SMART_QUOTE ? node->third : 0;
+}
+
+/** @brief How many backquotes a run has. */
+static inline uint32_t first_pass_maybe_code_count(const struct first_pass_node *node) {
+    return node->kind == FIRST_PASS_NODE_MAYBE_CODE ? node->number : 0;
+}
+
+/** @brief Whether a backslash precedes a run of backquotes. */
+static inline int first_pass_maybe_code_is_escaped(const struct first_pass_node *node) {
+    return node->kind == FIRST_PASS_NODE_MAYBE_CODE ? node->first : 0;
+}
+
+/** @brief Whether a `]` is active: 1 in each tree of this version. */
+static inline int first_pass_maybe_link_close_is_active(const struct first_pass_node *node) {
+    return node->kind == FIRST_PASS_NODE_MAYBE_LINK_CLOSE ? node->first : 0;
+}
+
+/** @brief The character that stands for the bytes of the range, as a code point. */
+static inline uint32_t first_pass_synthesize_char_character(const struct first_pass_node *node) {
+    return node->kind == FIRST_PASS_NODE_SYNTHESIZE_CHAR ? node->number : 0;
+}
+
+/** @brief Whether a task is checked. */
+static inline int first_pass_task_list_marker_is_checked(const struct first_pass_node *node) {
+    return node->kind == FIRST_PASS_NODE_TASK_LIST_MARKER ? node->first : 0;
+}
+
+/** @} */
 
 /**
  * @brief The index of a node's first child, or 0 if it has none.

@@ -57,7 +57,7 @@ static void check_reference(const struct first_pass_tree *tree, const struct sou
     }
     const char *label = source->text + tree->nodes[open].end;
     size_t length = tree->nodes[end].start - tree->nodes[open].end;
-    if (length > 0 && first_pass_find(tree, label, length, &found) == FIRST_PASS_OK && found == NULL) {
+    if (length > 0 && first_pass_find_definition(tree, label, length, &found) == FIRST_PASS_OK && found == NULL) {
         printf("%zu: no definition of [%.*s]\n", line_of(source, tree->nodes[open].start), (int)length, label);
         reports++;
     }
@@ -72,7 +72,7 @@ static bool is_file(const char *destination) {
 
 static void check_definition(const struct first_pass_tree *tree, const struct source *source,
                              const struct first_pass_definition *it) {
-    char *destination = strndup(tree->names + it->destination, it->destination_length);
+    char *destination = strndup(tree->strings + it->destination, it->destination_length);
     if (destination == NULL) {
         fputs("link_checker: out of memory\n", stderr);
         exit(2);
@@ -100,10 +100,10 @@ static void check_links(const struct first_pass_tree *tree, const struct source 
 
 int main(void) {
     char *text = NULL;
-    size_t room = 0;
+    size_t capacity = 0;
     struct first_pass_tree *tree;
     /* (no text in UTF-8 has this byte) */
-    ssize_t length = getdelim(&text, &room, 0xff, stdin);
+    ssize_t length = getdelim(&text, &capacity, 0xff, stdin);
     if (length < 0) {
         free(text);
         return ferror(stdin) ? 2 : 0;

@@ -10,15 +10,15 @@
 
 /* Reads a stream to its end. NULL if it can't be read. */
 static char *read_all(FILE *file, size_t *length) {
-    size_t room = 1 << 16;
-    char *text = malloc(room);
+    size_t capacity = 1 << 16;
+    char *text = malloc(capacity);
     *length = 0;
     while (text != NULL) {
-        *length += fread(text + *length, 1, room - *length, file);
-        if (*length < room) {
+        *length += fread(text + *length, 1, capacity - *length, file);
+        if (*length < capacity) {
             break;
         }
-        char *larger = realloc(text, room *= 2);
+        char *larger = realloc(text, capacity *= 2);
         if (larger == NULL) {
             free(text);
         }
@@ -32,11 +32,11 @@ static char *read_all(FILE *file, size_t *length) {
 }
 
 static void print_heading(const struct first_pass_tree *tree, const struct first_pass_node *node) {
-    const struct first_pass_attribute *attributes = first_pass_node_attributes(tree, node);
-    printf("%d %u..%u", node->first, node->start, node->end);
+    const struct first_pass_attribute *attributes = first_pass_heading_attributes(tree, node);
+    printf("%d %u..%u", first_pass_heading_level(node), node->start, node->end);
     /* (the id stands before all other attributes) */
     if (attributes != NULL && attributes->kind == FIRST_PASS_ATTRIBUTE_ID) {
-        printf(" #%.*s", (int)attributes->name_length, tree->names + attributes->name);
+        printf(" #%.*s", (int)attributes->name_length, tree->strings + attributes->name);
     }
     putchar('\n');
 }

@@ -84,7 +84,7 @@ static void test_empty(void) {
     struct first_pass_tree *other = parsed("", 0);
     CHECK(tree->node_count == 1 && tree->nodes[0].kind == FIRST_PASS_NODE_ROOT && tree->nodes[0].next == 1);
     CHECK(tree->attribute_count == 0 && tree->definition_count == 0 && tree->link_count == 0);
-    CHECK(tree->name_bytes == 0 && first_pass_first_child(tree, 0) == 0 && first_pass_next_sibling(tree, 0) == 0);
+    CHECK(tree->string_bytes == 0 && first_pass_first_child(tree, 0) == 0 && first_pass_next_sibling(tree, 0) == 0);
     CHECK(same_trees(tree, other));
     first_pass_tree_free(tree);
     first_pass_tree_free(other);
@@ -183,6 +183,45 @@ static void test_kinds(void) {
     CHECK(strcmp(first_pass_kind_name(36), "?") == 0 && strcmp(first_pass_kind_name(255), "?") == 0);
 }
 
+/* Whether a call reads a member of nodes of its kind, and gives 0 of another. */
+#define CHECK_VALUE(call, of, member)                                                                                 \
+    CHECK((uint32_t)first_pass_##call(&node) == (node.kind == FIRST_PASS_NODE_##of ? node.member : 0u))
+
+/* Each value is read of its kind alone. */
+static void test_values(void) {
+    struct first_pass_node node = {.string_length = 70001, .number = 70000, .first = 5, .second = '-', .third = 1};
+    for (unsigned kind = 0; kind < 256; kind++) {
+        node.kind = (uint8_t)kind;
+        CHECK_VALUE(heading_level, HEADING, first);
+        CHECK_VALUE(heading_has_attribute_block, HEADING, second);
+        CHECK_VALUE(heading_attribute_count, HEADING, string_length);
+        CHECK_VALUE(block_quote_kind, BLOCK_QUOTE, first);
+        CHECK_VALUE(list_is_tight, LIST, first);
+        CHECK_VALUE(list_byte, LIST, second);
+        CHECK_VALUE(list_number, LIST, number);
+        CHECK_VALUE(list_item_columns, LIST_ITEM, number);
+        CHECK_VALUE(metadata_block_has_pluses, METADATA_BLOCK, first);
+        CHECK_VALUE(definition_list_is_tight, DEFINITION_LIST, first);
+        CHECK_VALUE(definition_list_definition_columns, DEFINITION_LIST_DEFINITION, number);
+        CHECK_VALUE(text_is_escaped, TEXT, first);
+        CHECK_VALUE(hard_break_is_by_backslash, HARD_BREAK, first);
+        CHECK_VALUE(maybe_emphasis_remaining, MAYBE_EMPHASIS, number);
+        CHECK_VALUE(maybe_emphasis_can_open, MAYBE_EMPHASIS, first);
+        CHECK_VALUE(maybe_emphasis_can_close, MAYBE_EMPHASIS, second);
+        CHECK_VALUE(maybe_math_context, MAYBE_MATH, number);
+        CHECK_VALUE(maybe_math_can_open, MAYBE_MATH, first);
+        CHECK_VALUE(maybe_math_can_close, MAYBE_MATH, second);
+        CHECK_VALUE(maybe_smart_quote_byte, MAYBE_SMART_QUOTE, second);
+        CHECK_VALUE(maybe_smart_quote_can_open, MAYBE_SMART_QUOTE, first);
+        CHECK_VALUE(maybe_smart_quote_can_close, MAYBE_SMART_QUOTE, third);
+        CHECK_VALUE(maybe_code_count, MAYBE_CODE, number);
+        CHECK_VALUE(maybe_code_is_escaped, MAYBE_CODE, first);
+        CHECK_VALUE(maybe_link_close_is_active, MAYBE_LINK_CLOSE, first);
+        CHECK_VALUE(synthesize_char_character, SYNTHESIZE_CHAR, number);
+        CHECK_VALUE(task_list_marker_is_checked, TASK_LIST_MARKER, first);
+    }
+}
+
 /* A tag gives a quote the kind of its name. */
 static void test_quotes(void) {
     static const struct {
@@ -198,7 +237,8 @@ static void test_quotes(void) {
     };
     for (size_t i = 0; i < sizeof quotes / sizeof *quotes; i++) {
         struct first_pass_tree *tree = parsed(quotes[i].text, strlen(quotes[i].text));
-        CHECK(tree->nodes[1].kind == FIRST_PASS_NODE_BLOCK_QUOTE && tree->nodes[1].first == quotes[i].quote);
+        CHECK(tree->nodes[1].kind == FIRST_PASS_NODE_BLOCK_QUOTE &&
+              first_pass_block_quote_kind(&tree->nodes[1]) == quotes[i].quote);
         first_pass_tree_free(tree);
     }
 }
@@ -225,16 +265,16 @@ static void test_names(void) {
 static bool is_definition(const struct first_pass_tree *tree, const struct first_pass_definition *it,
                           const char *label, const char *destination, const char *title) {
     return it != NULL && it->label_length == strlen(label) &&
-           memcmp(tree->names + it->label, label, it->label_length) == 0 &&
+           memcmp(tree->strings + it->label, label, it->label_length) == 0 &&
            it->destination_length == strlen(destination) &&
-           memcmp(tree->names + it->destination, destination, it->destination_length) == 0 &&
+           memcmp(tree->strings + it->destination, destination, it->destination_length) == 0 &&
            it->has_title == (title != NULL) && it->title_length == (title != NULL ? strlen(title) : 0) &&
-           (title == NULL || memcmp(tree->names + it->title, title, it->title_length) == 0);
+           (title == NULL || memcmp(tree->strings + it->title, title, it->title_length) == 0);
 }
 
 static const struct first_pass_definition *find(const struct first_pass_tree *tree, const char *label) {
     const struct first_pass_definition *found;
-    CHECK(first_pass_find(tree, label, strlen(label), &found) == FIRST_PASS_OK);
+    CHECK(first_pass_find_definition(tree, label, strlen(label), &found) == FIRST_PASS_OK);
     return found;
 }
 
@@ -260,9 +300,9 @@ static void test_find(void) {
     CHECK(find(tree, "") == NULL && find(tree, " label") == NULL && find(tree, "label ") == NULL);
     CHECK(find(tree, "labe") == NULL && find(tree, "labels") == NULL && find(tree, "note") == NULL);
     CHECK(find(tree, "zzz") == NULL && find(tree, "\xf0\x9f\x98\x80") == NULL);
-    CHECK(first_pass_find(tree, NULL, 0, &found) == FIRST_PASS_OK && found == NULL);
+    CHECK(first_pass_find_definition(tree, NULL, 0, &found) == FIRST_PASS_OK && found == NULL);
     found = tree->definitions;
-    CHECK(first_pass_find(tree, "a\xff", 2, &found) == FIRST_PASS_NOT_UTF8 && found == NULL);
+    CHECK(first_pass_find_definition(tree, "a\xff", 2, &found) == FIRST_PASS_NOT_UTF8 && found == NULL);
     first_pass_tree_free(tree);
 }
 
@@ -284,7 +324,7 @@ static void test_find_many(void) {
         snprintf(destination, sizeof destination, "/%d", i);
         const struct first_pass_definition *found = find(tree, label);
         CHECK(found != NULL && found->destination_length == strlen(destination) &&
-              memcmp(tree->names + found->destination, destination, strlen(destination)) == 0);
+              memcmp(tree->strings + found->destination, destination, strlen(destination)) == 0);
         CHECK(find(tree, missing) == NULL);
     }
     first_pass_tree_free(tree);
@@ -347,27 +387,28 @@ static void test_children(void) {
     first_pass_tree_free(tree);
 }
 
-static void test_named(void) {
+static void test_strings(void) {
     struct first_pass_tree *tree = parsed(sample, strlen(sample));
     const struct first_pass_node *node = tree->nodes;
     while (node->kind != FIRST_PASS_NODE_HEADING) {
-        CHECK(first_pass_node_attributes(tree, node) == NULL);
+        CHECK(first_pass_heading_attributes(tree, node) == NULL);
         node++;
     }
-    const struct first_pass_attribute *it = first_pass_node_attributes(tree, node);
-    CHECK(it != NULL && node->name_length == 6 && node->second == 1 && first_pass_node_name(tree, node) == NULL);
-    CHECK(it[0].kind == FIRST_PASS_ATTRIBUTE_ID && memcmp(tree->names + it[0].name, "first", 5) == 0);
+    const struct first_pass_attribute *it = first_pass_heading_attributes(tree, node);
+    CHECK(it != NULL && first_pass_heading_attribute_count(node) == 6 &&
+          first_pass_heading_has_attribute_block(node) && first_pass_node_string(tree, node) == NULL);
+    CHECK(it[0].kind == FIRST_PASS_ATTRIBUTE_ID && memcmp(tree->strings + it[0].name, "first", 5) == 0);
     CHECK(it[1].kind == FIRST_PASS_ATTRIBUTE_CLASS && it[2].kind == FIRST_PASS_ATTRIBUTE_CLASS);
     CHECK(it[3].kind == FIRST_PASS_ATTRIBUTE_KEY && it[3].has_value == 1 && it[3].value_length == 2);
     CHECK(it[4].kind == FIRST_PASS_ATTRIBUTE_KEY && it[4].has_value == 0);
     while (node->kind != FIRST_PASS_NODE_TABLE) {
         node++;
     }
-    CHECK(node->name_length == 4 && memcmp(first_pass_node_name(tree, node), "-lcr", 4) == 0);
+    CHECK(node->string_length == 4 && memcmp(first_pass_node_string(tree, node), "-lcr", 4) == 0);
     while (node->kind != FIRST_PASS_NODE_HEADING) {
         node++;
     }
-    CHECK(node->second == 0 && first_pass_node_attributes(tree, node) == NULL);
+    CHECK(!first_pass_heading_has_attribute_block(node) && first_pass_heading_attributes(tree, node) == NULL);
     first_pass_tree_free(tree);
 }
 
@@ -411,11 +452,11 @@ static void test_allocator(void) {
     first_pass_tree_free(tree);
 }
 
-/* Where texts have what their second nodes name. */
-static void test_name_ranges(void) {
+/* Where texts have the strings or the attributes of their second nodes. */
+static void test_string_ranges(void) {
     static const struct {
         const char *text;
-        const char *named;
+        const char *wanted;
     } cases[] = {
         {"~~~  a&amp;b\\* \n~~~\n", "a&amp;b\\*"},
         {"```\n", ""},
@@ -431,15 +472,15 @@ static void test_name_ranges(void) {
         const char *text = cases[i].text;
         struct first_pass_tree *tree = parsed(text, strlen(text));
         struct first_pass_range range = {77, 78};
-        uint32_t found = first_pass_name_range(text, strlen(text), &tree->nodes[1], &range);
-        if (cases[i].named == NULL) {
+        uint32_t found = first_pass_string_range(text, strlen(text), &tree->nodes[1], &range);
+        if (cases[i].wanted == NULL) {
             CHECK(found == 0 && range.start == 77 && range.end == 78);
         } else {
-            size_t length = strlen(cases[i].named);
+            size_t length = strlen(cases[i].wanted);
             CHECK(found == 1 && range.end - range.start == length);
-            CHECK(memcmp(text + range.start, cases[i].named, length) == 0);
+            CHECK(memcmp(text + range.start, cases[i].wanted, length) == 0);
         }
-        CHECK(first_pass_name_range(text, 1, &tree->nodes[1], &range) == 0);
+        CHECK(first_pass_string_range(text, 1, &tree->nodes[1], &range) == 0);
         first_pass_tree_free(tree);
     }
 }
@@ -458,15 +499,16 @@ int main(void) {
     test_options();
     test_sets();
     test_kinds();
+    test_values();
     test_quotes();
     test_names();
     test_find();
     test_find_many();
     test_walk();
     test_children();
-    test_named();
+    test_strings();
     test_allocator();
-    test_name_ranges();
+    test_string_ranges();
     test_versions();
     return report("calls");
 }

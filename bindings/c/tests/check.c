@@ -148,6 +148,6 @@ bool same_trees(const struct first_pass_tree *one, const struct first_pass_tree 
                 sizeof *one->attributes) &&
            same(one->definition_count, other->definition_count, one->definitions, other->definitions,
                 sizeof *one->definitions) &&
-           same(one->name_bytes, other->name_bytes, one->names, other->names, 1) &&
+           same(one->string_bytes, other->string_bytes, one->strings, other->strings, 1) &&
            one->link_count == other->link_count;
 }

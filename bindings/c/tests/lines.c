@@ -21,13 +21,13 @@ static void write_string(FILE *out, const char *text, size_t length) {
     fputc('"', out);
 }
 
-/* A name of the tree, after that of its member. */
-static void write_name(FILE *out, const char *member, const char *name, size_t length) {
+/* A string of the tree, after the name of its member. */
+static void write_member(FILE *out, const char *member, const char *text, size_t length) {
     fprintf(out, ",\"%s\":", member);
-    write_string(out, name, length);
+    write_string(out, text, length);
 }
 
-static void write_flag(FILE *out, const char *member, unsigned flag) {
+static void write_flag(FILE *out, const char *member, int flag) {
     fprintf(out, ",\"%s\":%s", member, flag != 0 ? "true" : "false");
 }
 
@@ -35,9 +35,8 @@ static void write_number(FILE *out, const char *member, uint32_t number) {
     fprintf(out, ",\"%s\":%" PRIu32, member, number);
 }
 
-static void write_byte(FILE *out, const char *member, uint8_t byte) {
-    const char text[] = {(char)byte};
-    write_name(out, member, text, 1);
+static void write_byte(FILE *out, const char *member, char byte) {
+    write_member(out, member, &byte, 1);
 }
 
 /* A character in UTF-8. */
@@ -50,19 +49,19 @@ static void write_character(FILE *out, const char *member, uint32_t c) {
         c >>= 6;
     }
     text[0] = (char)(heads[length] | c);
-    write_name(out, member, text, length);
+    write_member(out, member, text, length);
 }
 
 static void write_attribute(FILE *out, const struct first_pass_tree *tree, const struct first_pass_attribute *it) {
     if (it->kind != FIRST_PASS_ATTRIBUTE_KEY) {
-        write_string(out, tree->names + it->name, it->name_length);
+        write_string(out, tree->strings + it->name, it->name_length);
         return;
     }
     fputc('[', out);
-    write_string(out, tree->names + it->name, it->name_length);
+    write_string(out, tree->strings + it->name, it->name_length);
     fputc(',', out);
     if (it->has_value != 0) {
-        write_string(out, tree->names + it->value, it->value_length);
+        write_string(out, tree->strings + it->value, it->value_length);
     } else {
         fputs("null", out);
     }
@@ -72,9 +71,9 @@ static void write_attribute(FILE *out, const struct first_pass_tree *tree, const
 /* The attributes of a heading that are of a kind, with a comma between two. */
 static size_t write_attributes(FILE *out, const struct first_pass_tree *tree, const struct first_pass_node *node,
                                uint32_t kind) {
-    const struct first_pass_attribute *attributes = first_pass_node_attributes(tree, node);
+    const struct first_pass_attribute *attributes = first_pass_heading_attributes(tree, node);
     size_t count = 0;
-    for (size_t i = 0; attributes != NULL && i < node->name_length; i++) {
+    for (size_t i = 0; i < first_pass_heading_attribute_count(node); i++) {
         if (attributes[i].kind == kind) {
             fputs(count++ > 0 ? "," : "", out);
             write_attribute(out, tree, &attributes[i]);
@@ -84,7 +83,7 @@ static size_t write_attributes(FILE *out, const struct first_pass_tree *tree, co
 }
 
 static void write_heading(FILE *out, const struct first_pass_tree *tree, const struct first_pass_node *node) {
-    write_number(out, "level", node->first);
+    write_number(out, "level", (uint32_t)first_pass_heading_level(node));
     fputs(",\"id\":", out);
     if (write_attributes(out, tree, node, FIRST_PASS_ATTRIBUTE_ID) == 0) {
         fputs("null", out);
@@ -96,7 +95,7 @@ static void write_heading(FILE *out, const struct first_pass_tree *tree, const s
     fputc(']', out);
 }
 
-static void write_quote(FILE *out, uint8_t kind) {
+static void write_quote(FILE *out, int kind) {
     static const char *const kinds[] = {"null", "\"Note\"", "\"Tip\"", "\"Important\"", "\"Warning\"", "\"Caution\""};
     fprintf(out, ",\"quote\":%s", kind <= FIRST_PASS_QUOTE_CAUTION ? kinds[kind] : "?");
 }
@@ -124,7 +123,7 @@ static void write_alignments(FILE *out, const char *alignments, size_t count) {
     fputc(']', out);
 }
 
-static void write_sides(FILE *out, uint8_t can_open, uint8_t can_close) {
+static void write_sides(FILE *out, int can_open, int can_close) {
     write_flag(out, "can_open", can_open);
     write_flag(out, "can_close", can_close);
 }
@@ -133,38 +132,38 @@ static void write_sides(FILE *out, uint8_t can_open, uint8_t can_close) {
 static void write_token(FILE *out, const struct first_pass_tree *tree, const struct first_pass_node *node) {
     switch (node->kind) {
     case FIRST_PASS_NODE_TEXT:
-        write_flag(out, "escaped", node->first);
+        write_flag(out, "escaped", first_pass_text_is_escaped(node));
         break;
     case FIRST_PASS_NODE_HARD_BREAK:
-        write_flag(out, "by_backslash", node->first);
+        write_flag(out, "by_backslash", first_pass_hard_break_is_by_backslash(node));
         break;
     case FIRST_PASS_NODE_MAYBE_EMPHASIS:
-        write_number(out, "remaining", node->number);
-        write_sides(out, node->first, node->second);
+        write_number(out, "remaining", first_pass_maybe_emphasis_remaining(node));
+        write_sides(out, first_pass_maybe_emphasis_can_open(node), first_pass_maybe_emphasis_can_close(node));
         break;
     case FIRST_PASS_NODE_MAYBE_MATH:
-        write_sides(out, node->first, node->second);
-        write_number(out, "context", node->number);
+        write_sides(out, first_pass_maybe_math_can_open(node), first_pass_maybe_math_can_close(node));
+        write_number(out, "context", first_pass_maybe_math_context(node));
         break;
     case FIRST_PASS_NODE_MAYBE_SMART_QUOTE:
-        write_byte(out, "byte", node->second);
-        write_sides(out, node->first, node->third);
+        write_byte(out, "byte", first_pass_maybe_smart_quote_byte(node));
+        write_sides(out, first_pass_maybe_smart_quote_can_open(node), first_pass_maybe_smart_quote_can_close(node));
         break;
     case FIRST_PASS_NODE_MAYBE_CODE:
-        write_number(out, "count", node->number);
-        write_flag(out, "escaped", node->first);
+        write_number(out, "count", first_pass_maybe_code_count(node));
+        write_flag(out, "escaped", first_pass_maybe_code_is_escaped(node));
         break;
     case FIRST_PASS_NODE_MAYBE_LINK_CLOSE:
-        write_flag(out, "active", node->first);
+        write_flag(out, "active", first_pass_maybe_link_close_is_active(node));
         break;
     case FIRST_PASS_NODE_SYNTHESIZE_TEXT:
-        write_name(out, "text", first_pass_node_name(tree, node), node->name_length);
+        write_member(out, "text", first_pass_node_string(tree, node), node->string_length);
         break;
     case FIRST_PASS_NODE_SYNTHESIZE_CHAR:
-        write_character(out, "text", node->number);
+        write_character(out, "text", first_pass_synthesize_char_character(node));
         break;
     case FIRST_PASS_NODE_TASK_LIST_MARKER:
-        write_flag(out, "checked", node->first);
+        write_flag(out, "checked", first_pass_task_list_marker_is_checked(node));
         break;
     default:
         break;
@@ -178,31 +177,33 @@ static void write_members(FILE *out, const struct first_pass_tree *tree, const s
         write_heading(out, tree, node);
         break;
     case FIRST_PASS_NODE_FENCED_CODE_BLOCK:
-        write_name(out, "info", first_pass_node_name(tree, node), node->name_length);
+        write_member(out, "info", first_pass_node_string(tree, node), node->string_length);
         break;
     case FIRST_PASS_NODE_BLOCK_QUOTE:
-        write_quote(out, node->first);
+        write_quote(out, first_pass_block_quote_kind(node));
         break;
     case FIRST_PASS_NODE_LIST:
-        write_flag(out, "tight", node->first);
-        write_byte(out, "byte", node->second);
-        write_number(out, "number", node->number);
+        write_flag(out, "tight", first_pass_list_is_tight(node));
+        write_byte(out, "byte", first_pass_list_byte(node));
+        write_number(out, "number", first_pass_list_number(node));
         break;
     case FIRST_PASS_NODE_DEFINITION_LIST:
-        write_flag(out, "tight", node->first);
+        write_flag(out, "tight", first_pass_definition_list_is_tight(node));
         break;
     case FIRST_PASS_NODE_LIST_ITEM:
+        write_number(out, "columns", first_pass_list_item_columns(node));
+        break;
     case FIRST_PASS_NODE_DEFINITION_LIST_DEFINITION:
-        write_number(out, "columns", node->number);
+        write_number(out, "columns", first_pass_definition_list_definition_columns(node));
         break;
     case FIRST_PASS_NODE_FOOTNOTE_DEFINITION:
-        write_name(out, "label", first_pass_node_name(tree, node), node->name_length);
+        write_member(out, "label", first_pass_node_string(tree, node), node->string_length);
         break;
     case FIRST_PASS_NODE_METADATA_BLOCK:
-        fprintf(out, ",\"metadata\":\"%s\"", node->first != 0 ? "PlusesStyle" : "YamlStyle");
+        fprintf(out, ",\"metadata\":\"%s\"", first_pass_metadata_block_has_pluses(node) ? "PlusesStyle" : "YamlStyle");
         break;
     case FIRST_PASS_NODE_TABLE:
-        write_alignments(out, first_pass_node_name(tree, node), node->name_length);
+        write_alignments(out, first_pass_node_string(tree, node), node->string_length);
         break;
     default:
         write_token(out, tree, node);
@@ -212,10 +213,10 @@ static void write_members(FILE *out, const struct first_pass_tree *tree, const s
 
 static void write_definition(FILE *out, const struct first_pass_tree *tree, const struct first_pass_definition *it) {
     fputs("{\"definition\":", out);
-    write_string(out, tree->names + it->label, it->label_length);
-    write_name(out, "destination", tree->names + it->destination, it->destination_length);
+    write_string(out, tree->strings + it->label, it->label_length);
+    write_member(out, "destination", tree->strings + it->destination, it->destination_length);
     if (it->has_title != 0) {
-        write_name(out, "title", tree->names + it->title, it->title_length);
+        write_member(out, "title", tree->strings + it->title, it->title_length);
     } else {
         fputs(",\"title\":null", out);
     }
@@ -235,7 +236,7 @@ void write_lines(FILE *out, const struct first_pass_tree *tree) {
     }
     for (size_t i = tree->link_count; i < tree->definition_count; i++) {
         fputs("{\"footnote\":", out);
-        write_string(out, tree->names + tree->definitions[i].label, tree->definitions[i].label_length);
+        write_string(out, tree->strings + tree->definitions[i].label, tree->definitions[i].label_length);
         fputs("}\n", out);
     }
 }

@@ -33,9 +33,9 @@ static bool same_places(const struct first_pass_place *one, const struct first_p
 
 /* Each offset of a text has its place, and one after its end has none. */
 static void check_text(const char *text, size_t length) {
-    size_t room = first_pass_place_count(length) * sizeof(struct first_pass_place);
+    size_t bytes = first_pass_place_count(length) * sizeof(struct first_pass_place);
     char *copy = edge_memory(length);
-    struct first_pass_place *places = edge_memory(room);
+    struct first_pass_place *places = edge_memory(bytes);
     memcpy(copy, text, length);
     first_pass_places(copy, length, places);
     for (size_t offset = 0; offset <= length; offset++) {
@@ -48,7 +48,7 @@ static void check_text(const char *text, size_t length) {
     CHECK(first_pass_line_column(copy, length, places, SIZE_MAX, &place) == 0);
     CHECK(place.line == 7 && place.column == 8 && place.utf16_column == 9);
     free_edge_memory(copy, length);
-    free_edge_memory(places, room);
+    free_edge_memory(places, bytes);
 }
 
 static void test_rows(void) {

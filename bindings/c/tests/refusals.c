@@ -46,7 +46,7 @@ static unsigned long use_refused(const char *text, const char *label, unsigned l
     guarded.requests = 0;
     guarded.refuse = refuse;
     guarded.refuse_all = refuse_all;
-    enum first_pass_status status = first_pass_find(tree, label, strlen(label), &found);
+    enum first_pass_status status = first_pass_find_definition(tree, label, strlen(label), &found);
     int answer = first_pass_walk(tree, visit, visit, &visits);
     CHECK(guarded.blocks == 1);
     CHECK(status == FIRST_PASS_OK ? found != NULL : status == FIRST_PASS_OUT_OF_MEMORY && found == NULL);

@@ -27,7 +27,7 @@ static int count_visit(const struct first_pass_node *node, void *data) {
 static void read_shared(void) {
     const struct first_pass_definition *found;
     size_t visits = 0;
-    CHECK(first_pass_find(wanted[0], "LABEL", 5, &found) == FIRST_PASS_OK && found != NULL);
+    CHECK(first_pass_find_definition(wanted[0], "LABEL", 5, &found) == FIRST_PASS_OK && found != NULL);
     CHECK(first_pass_walk(wanted[0], count_visit, count_visit, &visits) == 0);
     CHECK(visits == 2 * wanted[0]->node_count);
 }

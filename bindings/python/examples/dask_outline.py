@@ -21,7 +21,7 @@ def row(path):
     try:
         with open(path, "rb") as file:
             headings = first_pass.outline(file.read(), first_pass.Options.GITHUB)
-    except (OSError, first_pass.MarkdownError) as error:
+    except (OSError, first_pass.InputError) as error:
         return {"file": path, "fault": str(error)}
     return {"file": path, "headings": [heading._asdict() for heading in headings]}
 

@@ -10,18 +10,19 @@ from pathlib import Path
 from urllib.parse import unquote, urlsplit
 
 import first_pass
+from first_pass import Kind
 
-BREAKS = ("SoftBreak", "HardBreak")
+BREAKS = (Kind.SoftBreak, Kind.HardBreak)
 
 
 def end_of_code(tokens, at):
     """The place of the backquotes that close a code span which begins at a place, or None. After a backslash the first
     backquote is text."""
-    if tokens[at].kind != "MaybeCode":
+    if tokens[at].kind != Kind.MaybeCode:
         return None
     count = tokens[at].number - tokens[at].first
     rest = range(at + 1, len(tokens))
-    return next((end for end in rest if tokens[end].kind == "MaybeCode" and tokens[end].number == count), None)
+    return next((end for end in rest if tokens[end].kind == Kind.MaybeCode and tokens[end].number == count), None)
 
 
 def without_code(tokens):
@@ -42,10 +43,10 @@ def pairs(document, tokens):
     for token in tokens:
         if begin is None:
             # The first token of a line. A backslash that was dropped stands before a token that is escaped.
-            begin = token.start - token.first if token.kind in ("Text", "MaybeCode") else token.start
-        if token.kind in ("MaybeLinkOpen", "MaybeImage"):
+            begin = token.start - token.first if token.kind in (Kind.Text, Kind.MaybeCode) else token.start
+        if token.kind in (Kind.MaybeLinkOpen, Kind.MaybeImage):
             opening, begin, parts = token, token.end, []
-        elif token.kind == "MaybeLinkClose" and opening:
+        elif token.kind == Kind.MaybeLinkClose and opening:
             yield opening, token.end, "".join(parts) + text_of(document, begin, token.start)
             opening = None
         elif token.kind in BREAKS:
@@ -63,7 +64,7 @@ def references(document):
         tokens = [document[child] for child in document.children(index)]
         after, before = 0, ""
         for opening, end, label in pairs(document, without_code(tokens)):
-            follows = opening.kind == "MaybeLinkOpen" and document.source[opening.start - 1 : opening.start] == b"]"
+            follows = opening.kind == Kind.MaybeLinkOpen and document.source[opening.start - 1 : opening.start] == b"]"
             if label or after == opening.start:
                 yield label or before, follows
             after, before = end, label

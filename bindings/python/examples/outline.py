@@ -1,4 +1,4 @@
-"""Prints the outline of each Markdown file: the line of each heading, and its title, indented by its level.
+"""Prints the outline of each Markdown file: the line of each heading, and its text, indented by its level.
 
 python3 outline.py FILE..
 """
@@ -14,7 +14,7 @@ def main():
         document = first_pass.parse(Path(name).read_bytes(), first_pass.Options.GITHUB)
         for heading in document.outline():
             line, _column = document.line_column(heading.start)
-            print(f"{name}:{line}: {'  ' * (heading.level - 1)}{heading.title}")
+            print(f"{name}:{line}: {'  ' * (heading.level - 1)}{heading.text}")
 
 
 if __name__ == "__main__":

@@ -48,14 +48,14 @@ class OutlineTest(CommandTest):
             self.check(ran, 0, [])
             rows = [json.loads(line) for line in ran.stdout.splitlines()]
             self.assertEqual([row["file"] for row in rows], names)
-            first = {"level": 1, "start": 0, "end": 10, "id": "i", "title": "T1"}
+            first = {"level": 1, "start": 0, "end": 10, "id": "i", "text": "T1"}
             self.assertEqual(
-                rows[1]["headings"], [first, {"level": 2, "start": 11, "end": 16, "id": None, "title": "b"}]
+                rows[1]["headings"], [first, {"level": 2, "start": 11, "end": 16, "id": None, "text": "b"}]
             )
             self.assertEqual(rows[0]["headings"], [])
 
     def test_standard_input(self):
-        line = b'{"file":"-","headings":[{"level":1,"start":0,"end":4,"id":null,"title":"\xc3\xa9"}]}\n'
+        line = b'{"file":"-","headings":[{"level":1,"start":0,"end":4,"id":null,"text":"\xc3\xa9"}]}\n'
         for words in ((), ("-",)):
             ran = run("outline", *words, given="# \u00e9".encode())
             self.check(ran, 0, [])
@@ -63,14 +63,14 @@ class OutlineTest(CommandTest):
 
     def test_options_are_those_of_commonmark_unless_they_are_named(self):
         text = b"# a {#b}\n"
-        for words, title in (
+        for words, heading in (
             ((), "a {#b}"),
             (("-o", "all"), "a"),
             (("--options=64",), "a"),
             (("-o", "heading-attributes", "-omath"), "a"),
         ):
             row = json.loads(run("outline", *words, given=text).stdout)
-            self.assertEqual(row["headings"][0]["title"], title)
+            self.assertEqual(row["headings"][0]["text"], heading)
 
     def test_words_stand_in_any_order(self):
         name = self.write("a.md", b"# a {#b}\n")
@@ -83,7 +83,7 @@ class OutlineTest(CommandTest):
         for command in ("outline", "tree"):
             ran = run(command, name, plain)
             self.check(ran, 0, [warning])
-            self.assertNotIn(b'"title":"a"', ran.stdout)
+            self.assertNotIn(b'"text":"a"', ran.stdout)
             self.check(run(command, "--strip-bom", name, plain), 0, [])
         self.assertEqual(run("tree", name).stdout, run("tree", given="\ufeff# a\n".encode()).stdout)
         self.assertEqual(run("tree", "--strip-bom", name).stdout, run("tree", given=b"# a\n").stdout)
@@ -253,7 +253,7 @@ class TerminalTest(CommandTest):
         name = self.write("a.md", "# a\x9b\u202eb\u0007\n".encode())
         sent = self.on_terminal(["outline", name], ["stdout"])
         self.assertIsNone(re.search("[\x00-\x09\x0b-\x0c\x0e-\x1f\x7f-\x9f\u202e]", sent))
-        self.assertEqual(json.loads(sent)["headings"][0]["title"], "a\x9b\u202eb\u0007")
+        self.assertEqual(json.loads(sent)["headings"][0]["text"], "a\x9b\u202eb\u0007")
 
 
 if __name__ == "__main__":

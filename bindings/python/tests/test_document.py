@@ -1,5 +1,7 @@
 """Documents: what nodes, headings and definitions say, and how they are reached."""
 
+import copy
+import json
 import pickle
 import struct
 import unittest
@@ -76,6 +78,28 @@ class EveryKindTest(unittest.TestCase):
         self.assertTrue(nodes, kind)
         return [{name: value for name, value in node.members().items() if name not in common} for node in nodes]
 
+    def test_kinds(self):
+        """A kind is equal to its name, prints as it, and is what is found."""
+        document = self.document
+        node = document[1]
+        self.assertTrue(node.kind == Kind.MetadataBlock and node.kind == "MetadataBlock")
+        self.assertFalse(node.kind == Kind.Heading or node.kind == "Heading")
+        self.assertIs(Kind("Heading"), Kind.Heading)
+        for printed in (f"{node.kind}", str(node.kind), "%s" % node.kind, f"{node.kind:>14}".strip()):
+            self.assertEqual((printed, type(printed)), ("MetadataBlock", str))
+        self.assertEqual(repr(node.kind), "Kind.MetadataBlock")
+        self.assertEqual(json.dumps(node.kind), '"MetadataBlock"')
+        self.assertEqual({node.kind: 1}["MetadataBlock"], 1)
+        for kind in (node.kind, Kind.MetadataBlock, "MetadataBlock"):
+            self.assertEqual(list(document.find(kind)), [1])
+        self.assertEqual([kind.number for kind in Kind], list(range(36)))
+        for kind in (Kind.Text, node.kind):
+            self.assertIs(pickle.loads(pickle.dumps(kind)), kind)
+            self.assertIs(copy.deepcopy(kind), kind)
+        for other in (4, "heading", None):
+            with self.assertRaises(KeyError):
+                next(document.find(other))
+
     def test_every_kind_is_there(self):
         inner = {Kind.MaybeDefinitionListTitle}
         found = {kind for kind in Kind if nodes_of(self.document, kind)}
@@ -118,7 +142,7 @@ class EveryKindTest(unittest.TestCase):
         self.assertEqual(self.members(Kind.MetadataBlock), [{"metadata": "YamlStyle"}])
         self.assertEqual(self.members(Kind.FencedCodeBlock), [{"info": "rust"}])
         self.assertEqual(self.members(Kind.Table), [{"alignments": ["none", "left", "center", "right"]}])
-        self.assertEqual(nodes_of(self.document, Kind.Table)[0].name, "-lcr")
+        self.assertEqual(nodes_of(self.document, Kind.Table)[0].string, "-lcr")
 
     def test_tokens(self):
         self.assertEqual(self.members(Kind.HardBreak), [{"by_backslash": True}, {"by_backslash": False}])
@@ -160,9 +184,9 @@ class TreeTest(unittest.TestCase):
         for name in ("start", "end", "depth", "next", "number", "first", "second", "third"):
             column = self.document.column(name)
             self.assertEqual(column.tolist(), [getattr(node, name) for node in self.document])
-            self.assertIs(column.obj, self.document.nodes)
+            self.assertIs(column.obj, self.document.node_records)
             self.assertTrue(column.readonly)
-        kinds = [Kind(number).name for number in self.document.column("kind")]
+        kinds = [list(Kind)[number] for number in self.document.column("kind")]
         self.assertEqual(kinds, [node.kind for node in self.document])
         with self.assertRaisesRegex(KeyError, "no column 'level'"):
             self.document.column("level")
@@ -189,7 +213,7 @@ class TreeTest(unittest.TestCase):
             next(document.children(len(document)))
 
     def test_find(self):
-        expected = [index for index, node in enumerate(self.document) if node.kind == "Text"]
+        expected = [index for index, node in enumerate(self.document) if node.kind == Kind.Text]
         self.assertEqual(list(self.document.find(Kind.Text)), expected)
 
     def test_slice(self):
@@ -200,15 +224,15 @@ class TreeTest(unittest.TestCase):
         heading = parse("# \u00e9\n").outline()[0]
         self.assertEqual(parse("# \u00e9\n").slice(heading), "# \u00e9\n")
 
-    def test_name_range(self):
+    def test_string_range(self):
         text = "ä\n\n~~~ a&amp;b \n~~~\n\na {x}\nb {#y} \\\n---\n\n[^c\\]d]: e\n"
         document = parse(text, Options.DOCS)
-        ranges = [document.name_range(index) for index in range(len(document))]
+        ranges = [document.string_range(index) for index in range(len(document))]
         self.assertEqual([document.slice(found) for found in ranges if found], ["a&amp;b", "#y", "c\\]d"])
-        self.assertIsNone(document.name_range(0))
-        self.assertEqual(document.name_range(-len(document)), document.name_range(0))
+        self.assertIsNone(document.string_range(0))
+        self.assertEqual(document.string_range(-len(document)), document.string_range(0))
         with self.assertRaises(IndexError):
-            document.name_range(len(document))
+            document.string_range(len(document))
 
     def test_an_unknown_kind_is_a_plain_node(self):
         source = parse("a")
@@ -216,13 +240,16 @@ class TreeTest(unittest.TestCase):
         root = struct.pack("=7I4B", 0, 1, 0, 2, 0, 0, 0, 0, 0, 0, 0)
         document = first_pass.Document(source.source, root + record, b"", b"", b"")
         self.assertEqual(document[1].members(), {"kind": "?", "depth": 1, "start": 0, "end": 1})
-        self.assertEqual(document[1].number, 7)
+        self.assertEqual((document[1].number, document[1].kind.number), (7, 200))
+        self.assertEqual((document[1].kind, str(document[1].kind)), ("?", "?"))
+        self.assertEqual(list(document.find(document[1].kind)), [1])
+        self.assertEqual(pickle.loads(pickle.dumps(document[1])).kind.number, 200)
 
     def test_it_can_not_be_changed(self):
         for name in (
             "source",
-            "nodes",
-            "names",
+            "node_records",
+            "strings",
             "definitions",
             "footnotes",
             "attribute_records",

@@ -71,7 +71,7 @@ class ExamplesTest(unittest.TestCase):
         self.assertEqual(len(rows), 3001)
         for number, row in enumerate(rows[:3000]):
             self.assertEqual(row["file"], str(self.folder / f"{number:04}.md"))
-            self.assertEqual([heading["title"] for heading in row["headings"]], [f"Title {number}", "Part"])
+            self.assertEqual([heading["text"] for heading in row["headings"]], [f"Title {number}", "Part"])
         self.assertEqual(rows[3000], {"file": str(self.folder / "bad.md"), "fault": "not UTF-8: byte 0"})
 
 

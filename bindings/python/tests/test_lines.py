@@ -39,7 +39,7 @@ def run_tree(inputs):
         return list(pool.map(lines_of, inputs))
 
 
-def parts_of_title(source, tokens):
+def parts_of_heading(source, tokens):
     """The text of the tokens of a heading, and of what stands between them in a line. A break is a space."""
     end = None
     for token in tokens:
@@ -59,8 +59,8 @@ def headings_of(source, nodes):
     for at, node in enumerate(nodes):
         if node["kind"] == "Heading":
             tokens = itertools.takewhile(lambda inner: inner["depth"] > node["depth"], nodes[at + 1 :])
-            title = b"".join(parts_of_title(source, tokens)).strip(b" \t").decode()
-            yield first_pass.Heading(node["level"], node["start"], node["end"], node["id"], title)
+            text = b"".join(parts_of_heading(source, tokens)).strip(b" \t").decode()
+            yield first_pass.Heading(node["level"], node["start"], node["end"], node["id"], text)
 
 
 class LinesTest(unittest.TestCase):

@@ -5,7 +5,7 @@ import pickle
 import threading
 import unittest
 
-from first_pass import MarkdownError, Options, parse, parse_many
+from first_pass import InputError, Options, parse, parse_many
 
 TEXTS = [f"# {number}\n\n[a]: /{number}\n" * (number % 7 + 1) for number in range(1000)]
 
@@ -76,7 +76,7 @@ class ManyTest(unittest.TestCase):
     def test_a_text_that_is_not_utf8(self):
         for threads, chunk_bytes in itertools.product((1, 3), (1, 60, 1 << 18)):
             found = []
-            with self.assertRaisesRegex(MarkdownError, "^text 5: not UTF-8: byte 1$") as caught:
+            with self.assertRaisesRegex(InputError, "^text 5: not UTF-8: byte 1$") as caught:
                 for document in parse_many(TEXTS[:5] + [b"a\xff"] + TEXTS, threads=threads, chunk_bytes=chunk_bytes):
                     found.append(document)
             for error in (caught.exception, pickle.loads(pickle.dumps(caught.exception))):
@@ -96,7 +96,7 @@ class ManyTest(unittest.TestCase):
         for threads, chunk_bytes in itertools.product((1, 3), (1, 60, 1 << 18)):
             found = list(parse_many(given, threads=threads, chunk_bytes=chunk_bytes, on_error="yield"))
             self.assertEqual((found[:300], found[303:603]), (expected, expected))
-            self.assertEqual([type(found[place]) for place in (300, 301)], [MarkdownError, TypeError])
+            self.assertEqual([type(found[place]) for place in (300, 301)], [InputError, TypeError])
             messages = {
                 300: "text 300: not UTF-8: byte 0",
                 301: "text 301: a text is a str, or bytes, bytearray or memoryview in UTF-8, and no NoneType",
@@ -127,7 +127,7 @@ class ManyTest(unittest.TestCase):
         with self.assertRaisesRegex(ValueError, "^on_error is raise or yield, and not skip$"):
             parse_many([], on_error="skip")
         for on_error in ("raise", "yield"):
-            with self.assertRaisesRegex(MarkdownError, "^bad options: 1$"):
+            with self.assertRaisesRegex(InputError, "^bad options: 1$"):
                 parse_many([], 1, on_error=on_error)
 
 

@@ -10,7 +10,7 @@ import unittest.mock
 import warnings
 
 import first_pass
-from first_pass import MarkdownError, Options, _library, _scratch, parse
+from first_pass import InputError, Options, _library, _scratch, parse
 
 DENSE = "*a_b`" * 20_000
 NAMES = "&copy;" * 20_000
@@ -120,7 +120,7 @@ class ByteOrderMarkTest(unittest.TestCase):
     def test_offsets_are_counted_from_after_it(self):
         heading = parse("\ufeff# a", strip_bom=True).outline()[0]
         self.assertEqual((heading.start, heading.end), (0, 3))
-        with self.assertRaisesRegex(MarkdownError, "^not UTF-8: byte 1$"):
+        with self.assertRaisesRegex(InputError, "^not UTF-8: byte 1$"):
             parse(b"\xef\xbb\xbfa\xff", strip_bom=True)
 
 
@@ -133,20 +133,20 @@ class ErrorTest(unittest.TestCase):
 
     def test_not_utf8(self):
         for source, offset in ((b"\xff", 0), (b"ab\xc3", 2), (b"a\xed\xa0\x80", 1), (b"a\xc3\xa9\xf4\x90\x80\x80", 3)):
-            with self.assertRaises(MarkdownError) as caught:
+            with self.assertRaises(InputError) as caught:
                 parse(source)
             self.check(caught.exception, f"not UTF-8: byte {offset}", 2)
             self.assertEqual(pickle.loads(pickle.dumps(caught.exception)).offset, offset)
 
     def test_lone_surrogates(self):
         for text, place in (("\ud800", 0), ("a\u00e9\udc80b", 2)):
-            with self.assertRaises(MarkdownError) as caught:
+            with self.assertRaises(InputError) as caught:
                 parse(text)
             self.check(caught.exception, f"not UTF-8: the string has a lone surrogate at index {place}", 2)
 
     def test_bad_options(self):
         for options in (1, 65536, -1, 1 << 32, (1 << 64) + 2):
-            with self.assertRaises(MarkdownError) as caught:
+            with self.assertRaises(InputError) as caught:
                 parse("a", options)
             self.check(caught.exception, f"bad options: {options}", 3)
         for options in ("tables", None, 2.0):
@@ -158,7 +158,7 @@ class ErrorTest(unittest.TestCase):
             text = bytes(1 << 32)
         except MemoryError:
             self.skipTest("there is no memory for a text of 4 GiB")
-        with self.assertRaises(MarkdownError) as caught:
+        with self.assertRaises(InputError) as caught:
             parse(text)
         self.check(caught.exception, "too long: a text, and each number of its tree, has to stay below 4 GiB", 5)
 
@@ -171,7 +171,7 @@ class ErrorTest(unittest.TestCase):
     def test_an_error_changes_nothing_for_the_next_text(self):
         document = parse("# a\n")
         for given in ("\ud800", b"\xff"):
-            with self.assertRaises(MarkdownError):
+            with self.assertRaises(InputError):
                 parse(given)
             self.assertEqual(parse("# a\n"), document)
 
@@ -185,10 +185,10 @@ class MemoryTest(unittest.TestCase):
         for text in (DENSE, NAMES, DEFINED, ATTRIBUTES):
             source = text.encode()
             scratch = _scratch.Scratch.for_length(len(source))
-            self.assertEqual(scratch.read(source, Options.ALL), 4, text[:20])
+            self.assertEqual(scratch.parse(source, Options.ALL), 4, text[:20])
             grown = parse(text, Options.ALL)
             ample = _scratch.Scratch(*[len(source) + 1] * 4)
-            self.assertEqual(ample.read(source, Options.ALL), 0)
+            self.assertEqual(ample.parse(source, Options.ALL), 0)
             self.assertEqual(ample.document(source), grown)
 
     def test_exact_room_is_enough(self):
@@ -198,14 +198,14 @@ class MemoryTest(unittest.TestCase):
             len(document),
             len(document.attribute_records) // 40,
             len(document.definition_records) // 104,
-            len(document.names),
+            len(document.strings),
         ]
-        self.assertEqual(_scratch.Scratch(*exact).read(source, Options.ALL), 0)
+        self.assertEqual(_scratch.Scratch(*exact).parse(source, Options.ALL), 0)
         for place in range(4):
             short = [count - (place == at) for at, count in enumerate(exact)]
             scratch = _scratch.Scratch(*short)
-            self.assertEqual(scratch.read(source, Options.ALL), 4)
-            self.assertEqual(scratch.larger().read(source, Options.ALL), 0)
+            self.assertEqual(scratch.parse(source, Options.ALL), 4)
+            self.assertEqual(scratch.larger().parse(source, Options.ALL), 0)
 
     def test_memory_is_used_again(self):
         parse("a")
@@ -217,7 +217,7 @@ class MemoryTest(unittest.TestCase):
 
     def test_most_texts_are_read_once(self):
         parse("a")
-        with unittest.mock.patch.object(_scratch, "read", wraps=_scratch.read) as read:
+        with unittest.mock.patch.object(_scratch, "parse_into_arrays", wraps=_scratch.parse_into_arrays) as read:
             parse("a *b* and many words without any mark\n" * 20_000)
             self.assertEqual(read.call_count, 1)
             parse(DENSE * 10)
@@ -254,13 +254,13 @@ class MemoryTest(unittest.TestCase):
         """The process that was forked reads other texts, while this one still has to copy its records."""
         scratch = _scratch.Scratch.for_length(100)
         source = b"# a\n\nb\n"
-        self.assertEqual(scratch.read(source, 0), 0)
+        self.assertEqual(scratch.parse(source, 0), 0)
         with warnings.catch_warnings():
             # A thread that just ended may still be counted.
             warnings.simplefilter("ignore", DeprecationWarning)
             child = os.fork()
         if child == 0:
-            os._exit(scratch.read(b"> c", 0))
+            os._exit(scratch.parse(b"> c", 0))
         self.assertEqual(os.waitpid(child, 0)[1], 0)
         self.assertEqual(scratch.document(source), parse(source, 0))
 

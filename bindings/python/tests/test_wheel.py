@@ -52,14 +52,14 @@ class WheelTest(unittest.TestCase):
         pip = [sys.executable, "-m", "pip", "install", "--quiet", "--target", room, *words]
         subprocess.run(pip, env=environment(**more), check=True)
         code = (
-            "import first_pass; print(first_pass.__version__, first_pass.__file__, first_pass.outline('# a')[0].title)"
+            "import first_pass; print(first_pass.__version__, first_pass.__file__, first_pass.outline('# a')[0].text)"
         )
         used = [sys.executable, "-c", code]
         ran = subprocess.run(used, env=environment(PYTHONPATH=str(room)), cwd="/", stdout=subprocess.PIPE, check=True)
         self.assertEqual(ran.stdout.decode().split(), [VERSION, str(room / "first_pass/__init__.py"), "a"])
         script = {"env": environment(PYTHONPATH=str(room)), "stdout": subprocess.PIPE, "check": True}
         ran = subprocess.run([room / "bin/first_pass_py", "outline"], input=b"# a\n", **script)
-        self.assertIn(b'"title":"a"', ran.stdout)
+        self.assertIn(b'"text":"a"', ran.stdout)
         ran = subprocess.run([room / "bin/first_pass_py", "--help"], **script)
         self.assertTrue(ran.stdout.startswith(b"usage: first_pass_py [-h]"), ran.stdout)
 

@@ -15,7 +15,7 @@ def lines_of(text, options):
     """The status of a text, and its lines."""
     try:
         document = first_pass.parse(text, options)
-    except first_pass.MarkdownError as error:
+    except first_pass.InputError as error:
         return error.status, b""
     except MemoryError:
         return OUT_OF_MEMORY, b""

@@ -27,12 +27,12 @@ fn run() -> Result<(), Box<dyn Error>> {
     Ok(())
 }
 
-/// A line for each heading: its title, and its id if it has one.
+/// A line for each heading: its text, and its id if it has one.
 fn outline(tree: &Tree<'_>) -> String {
     let mut lines = String::new();
     for heading in tree.outline() {
         lines += &"  ".repeat(usize::from(heading.level) - 1);
-        lines += &heading.title();
+        lines += &heading.text();
         if let Some(id) = heading.id {
             lines += &format!(" #{id}");
         }

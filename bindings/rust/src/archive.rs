@@ -5,18 +5,18 @@ use crate::{Error, Options};
 use std::ops::Range;
 
 unsafe extern "C" {
-    fn first_pass_read(
+    fn first_pass_parse_into(
         text: *const u8,
         length: usize,
         options: u32,
         nodes: *mut NodeRecord,
-        node_room: usize,
+        node_capacity: usize,
         attributes: *mut AttributeRecord,
-        attribute_room: usize,
+        attribute_capacity: usize,
         definitions: *mut DefinitionRecord,
-        definition_room: usize,
-        names: *mut u8,
-        name_room: usize,
+        definition_capacity: usize,
+        strings: *mut u8,
+        string_capacity: usize,
         counts: *mut Counts,
     ) -> u32;
 
@@ -24,11 +24,11 @@ unsafe extern "C" {
         label: *const u8,
         length: usize,
         folded: *mut u8,
-        room: usize,
+        capacity: usize,
         folded_length: *mut usize,
     ) -> u32;
 
-    fn first_pass_name_range(
+    fn first_pass_string_range(
         text: *const u8,
         length: usize,
         node: *const NodeRecord,
@@ -43,18 +43,18 @@ const TOO_LONG: u32 = 5;
 
 /// Puts the records of a text in place of those that were there. Their memory is used again, and grows if it is too
 /// small for this text.
-pub(crate) fn read(text: &str, options: Options, records: &mut Records) -> Result<(), Error> {
+pub(crate) fn parse_into(text: &str, options: Options, records: &mut Records) -> Result<(), Error> {
     if u32::try_from(text.len()).is_err() {
         return Err(Error::TooLong);
     }
     let mut counts = guess(text.len());
     for _ in 0..2 {
         reserve(records, counts)?;
-        if try_read(text, options, records, &mut counts)? {
+        if try_parse_into(text, options, records, &mut counts)? {
             return Ok(());
         }
     }
-    panic!("{WRONG_ARCHIVE}: it asks twice for room")
+    panic!("{WRONG_ARCHIVE}: it asks twice for more memory")
 }
 
 /// Makes the key of a label: labels match if their keys are the same bytes.
@@ -62,19 +62,19 @@ pub(crate) fn fold(label: &str, key: &mut Vec<u8>) -> Result<(), Error> {
     let mut length = label.len();
     for _ in 0..2 {
         key.clear();
-        reserve_room(key, length)?;
+        reserve_capacity(key, length)?;
         if try_fold(label, key, &mut length)? {
             return Ok(());
         }
     }
-    panic!("{WRONG_ARCHIVE}: it asks twice for room")
+    panic!("{WRONG_ARCHIVE}: it asks twice for more memory")
 }
 
-/// Where a text has what a node names, if it does.
-pub(crate) fn name_range(text: &str, node: &NodeRecord) -> Option<Range<usize>> {
+/// Where a text has the string of a node, or the attributes of a heading, if it has them.
+pub(crate) fn string_range(text: &str, node: &NodeRecord) -> Option<Range<usize>> {
     let mut range = RangeRecord::default();
     // SAFETY: the call reads the text and the record, and writes no more than a range.
-    let found = unsafe { first_pass_name_range(text.as_ptr(), text.len(), node, &mut range) };
+    let found = unsafe { first_pass_string_range(text.as_ptr(), text.len(), node, &mut range) };
     (found == 1).then_some(range.start..range.end)
 }
 
@@ -83,8 +83,8 @@ const WRONG_ARCHIVE: &str = "the linked libfirst_pass.a doesn't fit this crate";
 /// How many bytes of a text may be dense markup, in the guess of what its tree takes.
 const DENSE_LENGTH: usize = 32 << 20;
 
-/// Room that is enough for nearly all texts of a length. Too little costs a second call; too much is given back. Most
-/// of a very long text is taken for prose, since a system may refuse much more memory than a tree takes.
+/// Capacities that are enough for nearly all texts of a length. Too little costs a second call; too much is given back.
+/// Most of a very long text is taken for prose, since a system may refuse much more memory than a tree takes.
 pub(crate) fn guess(length: usize) -> Counts {
     let dense = length.min(DENSE_LENGTH);
     let prose = length - dense;
@@ -93,40 +93,40 @@ pub(crate) fn guess(length: usize) -> Counts {
         attributes: dense / 64 + 8,
         definitions: dense / 64 + 8,
         links: 0,
-        names: dense / 8 + prose / 16 + 64,
+        string_bytes: dense / 8 + prose / 16 + 64,
     }
 }
 
-/// Drops all records, and sees that there is room for so many.
-fn reserve(records: &mut Records, room: Counts) -> Result<(), Error> {
+/// Drops all records, and sees that there is memory for so many.
+fn reserve(records: &mut Records, needed: Counts) -> Result<(), Error> {
     records.nodes.clear();
     records.attributes.clear();
     records.definitions.clear();
     records.links = 0;
-    records.names.clear();
-    reserve_room(&mut records.nodes, room.nodes)?;
-    reserve_room(&mut records.attributes, room.attributes)?;
-    reserve_room(&mut records.definitions, room.definitions)?;
-    reserve_room(&mut records.names, room.names)
+    records.strings.clear();
+    reserve_capacity(&mut records.nodes, needed.nodes)?;
+    reserve_capacity(&mut records.attributes, needed.attributes)?;
+    reserve_capacity(&mut records.definitions, needed.definitions)?;
+    reserve_capacity(&mut records.strings, needed.string_bytes)
 }
 
-fn reserve_room<T>(items: &mut Vec<T>, room: usize) -> Result<(), Error> {
-    items.try_reserve_exact(room).map_err(|_| Error::OutOfMemory)
+fn reserve_capacity<T>(items: &mut Vec<T>, capacity: usize) -> Result<(), Error> {
+    items.try_reserve_exact(capacity).map_err(|_| Error::OutOfMemory)
 }
 
-/// Fills empty records, and returns whether there was room. If not, the counts say how much it takes.
-fn try_read(
+/// Fills empty records, and returns whether there was needed. If not, the counts say how much it takes.
+fn try_parse_into(
     text: &str,
     options: Options,
     records: &mut Records,
     counts: &mut Counts,
 ) -> Result<bool, Error> {
     // SAFETY: the text is a slice. Each other pointer is that of a vector with its capacity, or a reference, all apart
-    // from one another, and none is null. The archive writes no further than the room that it is told. It returns `OK`
-    // only after it has written as many items as it counts, which is proved of it; `has_room` sees that no count is
-    // more than the capacity.
+    // from one another, and none is null. The archive writes no further than the capacity that it is told. It returns
+    // `OK` only after it has written as many items as it counts, which is proved of it; `have_capacity` sees that no
+    // count is more than the capacity.
     unsafe {
-        let status = first_pass_read(
+        let status = first_pass_parse_into(
             text.as_ptr(),
             text.len(),
             options.bits(),
@@ -136,36 +136,36 @@ fn try_read(
             records.attributes.capacity(),
             records.definitions.as_mut_ptr(),
             records.definitions.capacity(),
-            records.names.as_mut_ptr(),
-            records.names.capacity(),
+            records.strings.as_mut_ptr(),
+            records.strings.capacity(),
             counts,
         );
         if !is_filled(status)? {
             return Ok(false);
         }
-        assert!(has_room(records, counts), "{WRONG_ARCHIVE}: it counts wrong");
+        assert!(have_capacity(records, counts), "{WRONG_ARCHIVE}: it counts wrong");
         records.nodes.set_len(counts.nodes);
         records.attributes.set_len(counts.attributes);
         records.definitions.set_len(counts.definitions);
-        records.names.set_len(counts.names);
+        records.strings.set_len(counts.string_bytes);
     }
     records.links = counts.links;
     Ok(true)
 }
 
-/// Whether the vectors have room for so many items, and the root is one of them.
-fn has_room(records: &Records, counts: &Counts) -> bool {
+/// Whether the vectors have the capacity for so many items, and the root is one of them.
+fn have_capacity(records: &Records, counts: &Counts) -> bool {
     0 < counts.nodes
         && counts.nodes <= records.nodes.capacity()
         && counts.attributes <= records.attributes.capacity()
         && counts.definitions <= records.definitions.capacity()
         && counts.links <= counts.definitions
-        && counts.names <= records.names.capacity()
+        && counts.string_bytes <= records.strings.capacity()
 }
 
-/// Fills an empty key, and returns whether there was room. If not, the length says how much it takes.
+/// Fills an empty key, and returns whether there was needed. If not, the length says how much it takes.
 fn try_fold(label: &str, key: &mut Vec<u8>, length: &mut usize) -> Result<bool, Error> {
-    // SAFETY: as in `try_read`.
+    // SAFETY: as in `try_parse_into`.
     unsafe {
         let status =
             first_pass_fold(label.as_ptr(), label.len(), key.as_mut_ptr(), key.capacity(), length);
@@ -178,7 +178,7 @@ fn try_fold(label: &str, key: &mut Vec<u8>, length: &mut usize) -> Result<bool, 
     Ok(true)
 }
 
-/// Whether a call has filled what it was lent: `false` if there was too little room. A `str` is UTF-8, and `Options`
+/// Whether a call has filled what it was lent: `false` if there was too little needed. A `str` is UTF-8, and `Options`
 /// have only known bits, so no other status is left.
 pub(crate) fn is_filled(status: u32) -> Result<bool, Error> {
     match status {

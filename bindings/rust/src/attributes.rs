@@ -25,7 +25,8 @@ pub struct Attributes<'d> {
 
 impl<'d> Attributes<'d> {
     pub(crate) fn new(heading: &NodeRecord, records: &'d Records) -> Attributes<'d> {
-        let given = &records.attributes[heading.name as usize..][..heading.name_length as usize];
+        let given =
+            &records.attributes[heading.string_start as usize..][..heading.string_length as usize];
         Attributes { given, has_block: heading.second != 0, records }
     }
 
@@ -92,12 +93,12 @@ pub enum Attribute<'d> {
 
 impl<'d> Attribute<'d> {
     fn new(record: &AttributeRecord, records: &'d Records) -> Attribute<'d> {
-        let name = records.name(record.name, record.name_length);
+        let name = records.string(record.name, record.name_length);
         match record.kind {
             0 => Attribute::Id(name),
             1 => Attribute::Class(name),
             _ => {
-                let value = records.name(record.value, record.value_length);
+                let value = records.string(record.value, record.value_length);
                 Attribute::Pair(name, (record.has_value != 0).then_some(value))
             }
         }
@@ -122,7 +123,9 @@ pub struct Alignments<'d> {
 
 impl<'d> Alignments<'d> {
     pub(crate) fn new(table: &NodeRecord, records: &'d Records) -> Alignments<'d> {
-        Alignments { bytes: records.bytes(table.name as usize, table.name_length as usize) }
+        Alignments {
+            bytes: records.bytes(table.string_start as usize, table.string_length as usize),
+        }
     }
 
     /// The alignment of each column.

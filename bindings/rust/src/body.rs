@@ -218,7 +218,7 @@ impl<'d> Body<'d> {
             4 => {
                 Body::Heading { level: record.first, attributes: Attributes::new(record, records) }
             }
-            5 => Body::FencedCodeBlock { info: named_text(record, records) },
+            5 => Body::FencedCodeBlock { info: string_of(record, records) },
             6 => Body::IndentCodeBlock,
             7 => Body::HtmlBlock,
             8 => Body::BlockQuote { quote: quote_kind(record.first) },
@@ -228,7 +228,7 @@ impl<'d> Body<'d> {
                 number: record.number.into(),
             },
             10 => Body::ListItem { columns: record.number as usize },
-            11 => Body::FootnoteDefinition { label: named_text(record, records) },
+            11 => Body::FootnoteDefinition { label: string_of(record, records) },
             12 => Body::MetadataBlock { metadata: metadata_kind(record.first) },
             13 => Body::DefinitionList { tight: is_tight(record) },
             14 => Body::MaybeDefinitionListTitle,
@@ -267,7 +267,7 @@ impl<'d> Body<'d> {
             30 => Body::MaybeLinkClose { active: first },
             31 => Body::MaybeImage,
             32 => Body::Html,
-            33 => Body::SynthesizeText { text: named_text(record, records) },
+            33 => Body::SynthesizeText { text: string_of(record, records) },
             34 => Body::SynthesizeChar { character: character(record.number) },
             35 => Body::TaskListMarker { checked: first },
             kind => Body::Unknown { kind },
@@ -324,8 +324,8 @@ impl<'d> Body<'d> {
     }
 }
 
-fn named_text<'d>(record: &NodeRecord, records: &'d Records) -> &'d str {
-    records.name(record.name as usize, record.name_length as usize)
+fn string_of<'d>(record: &NodeRecord, records: &'d Records) -> &'d str {
+    records.string(record.string_start as usize, record.string_length as usize)
 }
 
 /// Bit 0 of a list's flags.

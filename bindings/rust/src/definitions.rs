@@ -62,7 +62,7 @@ impl<'d> Definitions<'d> {
         while low < high {
             let middle = low.midpoint(high);
             let link = &links[middle];
-            archive::fold(self.records.name(link.label, link.label_length), &mut key)?;
+            archive::fold(self.records.string(link.label, link.label_length), &mut key)?;
             match key.cmp(&wanted) {
                 Ordering::Less => low = middle + 1,
                 Ordering::Equal => return Ok(Some(Definition::new(link, self.records))),
@@ -101,10 +101,10 @@ pub struct Definition<'d> {
 
 impl<'d> Definition<'d> {
     fn new(record: &DefinitionRecord, records: &'d Records) -> Definition<'d> {
-        let title = records.name(record.title, record.title_length);
+        let title = records.string(record.title, record.title_length);
         Definition {
-            label: records.name(record.label, record.label_length),
-            destination: records.name(record.destination, record.destination_length),
+            label: records.string(record.label, record.label_length),
+            destination: records.string(record.destination, record.destination_length),
             title: (record.has_title != 0).then_some(title),
             range: record.range(),
             label_range: record.start + 1..record.label_end,

@@ -25,7 +25,7 @@ use std::fmt;
 /// [`Error::OutOfMemory`] if a request for memory is refused, and [`Error::TooLong`] for a text of 4 GiB or more.
 pub fn parse(text: &str, options: Options) -> Result<Document<'_>, Error> {
     let mut records = Records::default();
-    archive::read(text, options, &mut records)?;
+    archive::parse_into(text, options, &mut records)?;
     records.shrink();
     Ok(Document { text, records })
 }
@@ -108,7 +108,7 @@ impl Parser {
         options: Options,
         f: impl FnOnce(&Tree<'_>) -> R,
     ) -> Result<R, Error> {
-        archive::read(text, options, &mut self.records)?;
+        archive::parse_into(text, options, &mut self.records)?;
         Ok(f(&Tree::new(text, &self.records)))
     }
 }

@@ -14,7 +14,7 @@
 //! let tree = document.tree();
 //!
 //! for heading in tree.outline() {
-//!     assert_eq!((heading.level, heading.title().as_str()), (1, "Fruit"));
+//!     assert_eq!((heading.level, heading.text().as_str()), (1, "Fruit"));
 //! }
 //! let kinds: Vec<_> = tree.root().children().map(|node| node.body().name()).collect();
 //! assert_eq!(kinds, ["Heading", "List"]);
@@ -25,9 +25,9 @@
 //! # What the ranges mean
 //!
 //! Ranges are offsets in bytes, on character boundaries, so `&text[node.range()]` never panics. Siblings don't
-//! overlap, and a node lies within its parent. There is one exception: the [`Body::TaskListMarker`] of an item comes
-//! before the paragraph, heading or title that holds it. NUL is a byte of the text like any other. So is a byte order
-//! mark, unless [`strip_bom`] leaves it out.
+//! overlap, and a node lies within its parent. There is one exception: a [`Body::TaskListMarker`] may start before the
+//! paragraph, the heading or the title of a definition list that it is the first child of. It then lies in the same
+//! list item. NUL is a byte of the text like any other. So is a byte order mark, unless [`strip_bom`] leaves it out.
 //!
 //! # The linked library
 //!

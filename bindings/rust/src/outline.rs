@@ -36,26 +36,26 @@ impl<'d> Heading<'d> {
     /// ```
     /// # use first_pass::Options;
     /// let document = first_pass::parse("> \\*One* and\n> [two]\n> ===\n", Options::empty())?;
-    /// let titles: Vec<_> = document.tree().outline().map(|h| h.title()).collect();
-    /// assert_eq!(titles, ["\\*One* and [two]"]);
+    /// let texts: Vec<_> = document.tree().outline().map(|h| h.text()).collect();
+    /// assert_eq!(texts, ["\\*One* and [two]"]);
     /// # Ok::<(), first_pass::Error>(())
     /// ```
-    pub fn title(self) -> String {
-        let mut title = String::new();
+    pub fn text(self) -> String {
+        let mut text = String::new();
         let mut line_end = None;
         for token in self.node.descendants() {
             if matches!(token.body(), Body::SoftBreak | Body::HardBreak { .. }) {
-                title.push(' ');
+                text.push(' ');
                 line_end = None;
                 continue;
             }
             // What stands between two tokens of a line, as a backslash that was dropped, belongs to the content.
             let start = line_end.unwrap_or_else(|| whole_start(token));
             let end = token.range().end.max(start);
-            title.push_str(&self.node.tree().text()[start..end]);
+            text.push_str(&self.node.tree().text()[start..end]);
             line_end = Some(end);
         }
-        title.trim_matches([' ', '\t']).to_string()
+        text.trim_matches([' ', '\t']).to_string()
     }
 }
 

@@ -23,9 +23,9 @@ pub(crate) struct NodeRecord {
     pub depth: u32,
     /// The place of the first later node that is not deeper, or the number of nodes.
     pub next: u32,
-    /// The range in the names, or, of a heading, in the attributes.
-    pub name: u32,
-    pub name_length: u32,
+    /// The range of its string in the strings, or, of a heading, that of its attributes.
+    pub string_start: u32,
+    pub string_length: u32,
     /// The values of the kind.
     pub number: u32,
     pub kind: u8,
@@ -34,7 +34,7 @@ pub(crate) struct NodeRecord {
     pub third: u8,
 }
 
-/// An attribute of a heading. Each range is in the names.
+/// An attribute of a heading. Each range is in the strings.
 #[repr(C)]
 #[derive(Clone, Copy)]
 pub(crate) struct AttributeRecord {
@@ -47,7 +47,8 @@ pub(crate) struct AttributeRecord {
     pub kind: u32,
 }
 
-/// A link definition, or the label of a footnote. A range with a length is in the names, each other offset in the text.
+/// A link definition, or the label of a footnote. A range with a length is in the strings, and each other offset is in
+/// the text.
 #[repr(C)]
 #[derive(Clone, Copy)]
 pub(crate) struct DefinitionRecord {
@@ -76,8 +77,8 @@ pub(crate) struct RangeRecord {
     pub end: usize,
 }
 
-/// How many records there are of each sort, and how many bytes of names. Of the definitions the first `links` are link
-/// definitions.
+/// How many records there are of each sort, and how many bytes of strings. Of the definitions the first `links` are
+/// link definitions.
 #[repr(C)]
 #[derive(Clone, Copy, Default)]
 pub(crate) struct Counts {
@@ -85,7 +86,7 @@ pub(crate) struct Counts {
     pub attributes: usize,
     pub definitions: usize,
     pub links: usize,
-    pub names: usize,
+    pub string_bytes: usize,
 }
 
 /// All records of a text.
@@ -96,7 +97,7 @@ pub(crate) struct Records {
     /// The link definitions, and after them the labels of footnotes, both in the byte order of the labels' foldings.
     pub definitions: Vec<DefinitionRecord>,
     pub links: usize,
-    pub names: Vec<u8>,
+    pub strings: Vec<u8>,
 }
 
 impl Records {
@@ -110,14 +111,14 @@ impl Records {
         &self.definitions[self.links..]
     }
 
-    /// The bytes at a place in the names.
+    /// The bytes at a place in the strings.
     pub fn bytes(&self, start: usize, length: usize) -> &[u8] {
-        &self.names[start..][..length]
+        &self.strings[start..][..length]
     }
 
-    /// The text at a place in the names.
-    pub fn name(&self, start: usize, length: usize) -> &str {
-        str::from_utf8(self.bytes(start, length)).expect("names are UTF-8")
+    /// The string at a place in the strings.
+    pub fn string(&self, start: usize, length: usize) -> &str {
+        str::from_utf8(self.bytes(start, length)).expect("strings are UTF-8")
     }
 
     /// Gives back the memory that no record takes.
@@ -125,7 +126,7 @@ impl Records {
         self.nodes.shrink_to_fit();
         self.attributes.shrink_to_fit();
         self.definitions.shrink_to_fit();
-        self.names.shrink_to_fit();
+        self.strings.shrink_to_fit();
     }
 }
 

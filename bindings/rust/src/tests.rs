@@ -9,8 +9,8 @@ const ROOT: NodeRecord = NodeRecord {
     end: 1,
     depth: 0,
     next: 2,
-    name: 0,
-    name_length: 0,
+    string_start: 0,
+    string_length: 0,
     number: 0,
     kind: 0,
     first: 0,
@@ -18,10 +18,10 @@ const ROOT: NodeRecord = NodeRecord {
     third: 0,
 };
 
-/// A root with one node in it, and a byte that is named.
+/// A root with one node in it, and a byte of a string.
 fn records_of(node: NodeRecord) -> Records {
     let child = NodeRecord { depth: 1, ..node };
-    Records { nodes: vec![ROOT, child], names: b"\xff".to_vec(), ..Records::default() }
+    Records { nodes: vec![ROOT, child], strings: b"\xff".to_vec(), ..Records::default() }
 }
 
 fn body_of(records: &Records) -> Body<'_> {
@@ -84,25 +84,25 @@ fn unknown_values() {
     assert_eq!(body_of(&quote), Body::BlockQuote { quote: None });
     let character = records_of(NodeRecord { kind: 34, number: 0xd800, ..ROOT });
     assert_eq!(body_of(&character), Body::SynthesizeChar { character: '\u{fffd}' });
-    let table = records_of(NodeRecord { kind: 17, name_length: 1, ..ROOT });
+    let table = records_of(NodeRecord { kind: 17, string_length: 1, ..ROOT });
     let Body::Table { alignments } = body_of(&table) else { panic!("it is a table") };
     assert_eq!(alignments.get(0), Some(Alignment::None));
 }
 
 #[test]
-#[should_panic(expected = "names are UTF-8")]
-fn names_that_are_not_utf8() {
-    body_of(&records_of(NodeRecord { kind: 5, name_length: 1, ..ROOT }));
+#[should_panic(expected = "strings are UTF-8")]
+fn strings_that_are_not_utf8() {
+    body_of(&records_of(NodeRecord { kind: 5, string_length: 1, ..ROOT }));
 }
 
 #[test]
 #[should_panic(expected = "out of range")]
-fn names_past_the_end() {
-    body_of(&records_of(NodeRecord { kind: 5, name: 1, name_length: 1, ..ROOT }));
+fn strings_past_the_end() {
+    body_of(&records_of(NodeRecord { kind: 5, string_start: 1, string_length: 1, ..ROOT }));
 }
 
 #[test]
 #[should_panic(expected = "out of range")]
 fn attributes_past_the_end() {
-    body_of(&records_of(NodeRecord { kind: 4, name_length: 1, ..ROOT }));
+    body_of(&records_of(NodeRecord { kind: 4, string_length: 1, ..ROOT }));
 }

@@ -52,7 +52,7 @@ impl<'d> Tree<'d> {
     /// ```
     /// # use first_pass::Options;
     /// let document = first_pass::parse("# One\n\n> Two\n> ---\n", Options::empty())?;
-    /// let outline: Vec<_> = document.tree().outline().map(|h| (h.level, h.title())).collect();
+    /// let outline: Vec<_> = document.tree().outline().map(|h| (h.level, h.text())).collect();
     /// assert_eq!(outline, [(1, "One".to_string()), (2, "Two".to_string())]);
     /// # Ok::<(), first_pass::Error>(())
     /// ```
@@ -71,7 +71,7 @@ impl<'d> Tree<'d> {
         records
             .footnotes()
             .iter()
-            .map(move |footnote| records.name(footnote.label, footnote.label_length))
+            .map(move |footnote| records.string(footnote.label, footnote.label_length))
     }
 }
 
@@ -119,7 +119,8 @@ impl<'d> Node<'d> {
         self.record().depth as usize
     }
 
-    /// Its range in the text, in bytes.
+    /// Its range in the text, in bytes. Siblings don't overlap, and a node lies within its parent, with [one
+    /// exception](crate#what-the-ranges-mean).
     pub fn range(self) -> Range<usize> {
         self.record().range()
     }
@@ -129,8 +130,8 @@ impl<'d> Node<'d> {
         &self.tree.text[self.range()]
     }
 
-    /// Where the text has what the node names: the info string of a fenced code block, the label of a footnote
-    /// definition, or the attributes of a heading, between the braces. `None` if it names nothing that the text has.
+    /// Where the text has the info string of a fenced code block, the label of a footnote definition, or the attributes
+    /// of a heading, between the braces. `None` of a node of another kind, and of a heading without an attribute block.
     ///
     /// The range has the bytes as they are written, with escapes and references. It begins and ends between two
     /// characters.
@@ -139,11 +140,11 @@ impl<'d> Node<'d> {
     /// # use first_pass::Options;
     /// let document = first_pass::parse("~~~ a&amp;b\n", Options::empty())?;
     /// let block = document.tree().root().children().next().unwrap();
-    /// assert_eq!(block.name_range(), Some(4..11));
+    /// assert_eq!(block.string_range(), Some(4..11));
     /// # Ok::<(), first_pass::Error>(())
     /// ```
-    pub fn name_range(self) -> Option<Range<usize>> {
-        archive::name_range(self.tree.text, self.record())
+    pub fn string_range(self) -> Option<Range<usize>> {
+        archive::string_range(self.tree.text, self.record())
     }
 
     /// Its children in reading order.

@@ -1,4 +1,4 @@
-//! The shape of trees: nodes, events, outlines, depth, threads, rooms.
+//! The shape of trees: nodes, events, outlines, depth, threads, capacities.
 
 use first_pass::{Body, Document, Error, Event, Node, Options, Parser, Tree, parse};
 use std::thread;
@@ -79,11 +79,11 @@ fn nodes() -> Result<(), Error> {
 }
 
 #[test]
-fn ranges_of_names() -> Result<(), Error> {
+fn ranges_of_strings() -> Result<(), Error> {
     let text = "~~~ a&amp;b \n~~~\n\na {x}\nb {#y} \\\n---\n\n[^c\\]d]: e\n";
     let document = parse(text, Options::all())?;
-    let names: Vec<_> = document.tree().nodes().filter_map(Node::name_range).collect();
-    let written: Vec<_> = names.into_iter().map(|range| &text[range]).collect();
+    let ranges: Vec<_> = document.tree().nodes().filter_map(Node::string_range).collect();
+    let written: Vec<_> = ranges.into_iter().map(|range| &text[range]).collect();
     assert_eq!(written, ["a&amp;b", "#y", "c\\]d"]);
     Ok(())
 }
@@ -118,7 +118,7 @@ fn outline() -> Result<(), Error> {
     let found: Vec<_> = document
         .tree()
         .outline()
-        .map(|heading| (heading.level, heading.title(), heading.id, heading.range()))
+        .map(|heading| (heading.level, heading.text(), heading.id, heading.range()))
         .collect();
     assert_eq!(
         found,
@@ -132,13 +132,13 @@ fn outline() -> Result<(), Error> {
     Ok(())
 }
 
-/// The break before a line that is only an attribute block is no part of the title.
+/// The break before a line that is only an attribute block is no part of the text.
 #[test]
-fn titles_have_no_white_space_at_their_ends() -> Result<(), Error> {
+fn heading_texts_have_no_white_space_at_their_ends() -> Result<(), Error> {
     for text in ["a\n{#x}\n==", "#  a\t #", "a\n\x0b\n="] {
         let document = parse(text, Options::ENABLE_HEADING_ATTRIBUTES)?;
-        let titles: Vec<_> = document.tree().outline().map(|heading| heading.title()).collect();
-        assert_eq!(titles, ["a"], "{text:?}");
+        let texts: Vec<_> = document.tree().outline().map(|heading| heading.text()).collect();
+        assert_eq!(texts, ["a"], "{text:?}");
     }
     Ok(())
 }
@@ -197,13 +197,13 @@ fn threads_share_a_document() -> Result<(), Error> {
     Ok(())
 }
 
-/// Texts for which the first guess of some room is too small, and how many items there are then.
+/// Texts for which the first guess of some capacity is too small, and how many items there are then.
 #[test]
-fn rooms_grow() -> Result<(), Error> {
+fn capacities_grow() -> Result<(), Error> {
     let stars = "*a".repeat(10_000);
     let definitions: String = (0..2000).map(|at| format!("[{at}]:a\n")).collect();
     let attributes = "# {.a .b .c .d .e}\n".repeat(1000);
-    let names = format!("a{}", "--".repeat(10_000));
+    let texts = format!("a{}", "--".repeat(10_000));
     let mut parser = Parser::new();
     for _ in 0..2 {
         let count = |tree: &Tree<'_>| (tree.node_count(), tree.definitions().len());
@@ -219,9 +219,9 @@ fn rooms_grow() -> Result<(), Error> {
                 .sum::<usize>()
         })?;
         assert_eq!(classes, 5000);
-        let dashes = parser.parse_with(&names, Options::all(), |tree| {
-            let texts = tree.nodes().map(|node| node.body());
-            texts
+        let dashes = parser.parse_with(&texts, Options::all(), |tree| {
+            let bodies = tree.nodes().map(|node| node.body());
+            bodies
                 .map(|body| match body {
                     Body::SynthesizeText { text } => text.chars().count(),
                     _ => 0,
@@ -234,9 +234,9 @@ fn rooms_grow() -> Result<(), Error> {
     Ok(())
 }
 
-/// Texts around those for which the first guess of some room is just enough, or one too small.
+/// Texts around those for which the first guess of some capacity is just enough, or one too small.
 #[test]
-fn rooms_fit() -> Result<(), Error> {
+fn capacities_fit() -> Result<(), Error> {
     for count in 1..200 {
         let stars = "*a".repeat(count);
         assert_eq!(parse(&stars, Options::all())?.tree().node_count(), 2 * count + 2);
@@ -248,8 +248,8 @@ fn rooms_fit() -> Result<(), Error> {
             panic!("it is a heading");
         };
         assert_eq!(attributes.iter().len(), count);
-        let names = "&copy;".repeat(count);
-        let document = parse(&names, Options::all())?;
+        let texts = "&copy;".repeat(count);
+        let document = parse(&texts, Options::all())?;
         let mut signs = document.tree().nodes().skip(2).map(|node| node.body());
         assert!(signs.all(|body| body == Body::SynthesizeText { text: "©" }));
     }

@@ -34,5 +34,5 @@ sides_counted parsed tree sides is =
 
 -- counts are equal if each number is
 pub counted : (form : FlatForm) (n a d l m : ℕ) → n ≡ length form.nodes → a ≡ length form.attributes → d ≡ length form.definitions → l ≡ form.links
-    → m ≡ length form.names → ◌≡◌ {A = FlatCounts} (record { nodes = n; attributes = a; definitions = d; links = l; names = m }) (counts_of form)
+    → m ≡ length form.names → ◌≡◌ {A = FlatCounts} (record { nodes = n; attributes = a; definitions = d; links = l; string_bytes = m }) (counts_of form)
 counted form n a d l m nodes attributes definitions links names = cc

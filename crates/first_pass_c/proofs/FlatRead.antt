@@ -28,7 +28,7 @@ node_from bytes xs r = (
   r.depth,
   (
     record { start = r.start; «end» = r.«end»; body = body_from r.kind (values_in r) },
-    named_from r.kind r.second (take (bytes_named r.kind r.name_length) (drop r.name bytes)) (take (attributes_counted r.kind r.name_length) (drop r.name xs)),
+    named_from r.kind r.second (take (bytes_named r.kind r.string_length) (drop r.string_start bytes)) (take (attributes_counted r.kind r.string_length) (drop r.string_start xs)),
   ),
 )
 

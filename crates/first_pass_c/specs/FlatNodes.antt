@@ -45,8 +45,8 @@ flat_node names at n later = record {
   «end» = n.1.«end»;
   depth = n.0;
   next = (at.node + 1) + deeper_before n.0 later;
-  name = named_at at n.1.body;
-  name_length = named_length names n.1.body;
+  string_start = named_at at n.1.body;
+  string_length = named_length names n.1.body;
   number = (values_of n.1.body).number;
   kind = kind_number n.1.body;
   first = (values_of n.1.body).first;
@@ -77,6 +77,6 @@ pub record IsShort (r : FlatNode) : Type 0 where
   pub «end» : r.«end» < 2 ^ 32
   pub depth : r.depth < 2 ^ 32
   pub next : r.next < 2 ^ 32
-  pub name : r.name < 2 ^ 32
-  pub name_length : r.name_length < 2 ^ 32
+  pub string_start : r.string_start < 2 ^ 32
+  pub string_length : r.string_length < 2 ^ 32
   pub number : r.number < 2 ^ 32

@@ -19,7 +19,7 @@ counts_of form = record {
   attributes = length form.attributes;
   definitions = length form.definitions;
   links = form.links;
-  names = length form.names;
+  string_bytes = length form.names;
 }
 
 -- the arrays begin with a flat form, and their rests are unchanged (this project)

@@ -1,5 +1,5 @@
-//! The flat form of a tree and its tables, for other languages: records of numbers in C's layout, and the names. The
-//! names are the bytes of all strings and alignments, one after the other; the records have ranges of them.
+//! The flat form of a tree and its tables, for other languages: records of numbers in C's layout, and the strings. The
+//! strings are the bytes of all strings and alignments, one after the other; the records have ranges of them.
 
 pub mod attributes;
 pub mod definitions;

@@ -33,34 +33,34 @@ use std::alloc::Global;
 /// needed; 5, a number of a node needs more than 32 bits. At status 5 the arrays may have been written to. At statuses
 /// 1 to 4 they are unchanged.
 #[unsafe(no_mangle)]
-pub extern "C" fn first_pass_read(
+pub extern "C" fn first_pass_parse_into(
     alloc: Global,
     text: &[u8],
     bits: u32,
     nodes: &mut [FlatNode],
     attributes: &mut [FlatAttribute],
     definitions: &mut [FlatDefinition],
-    names: &mut [u8],
+    strings: &mut [u8],
     counts: &mut FlatCounts,
 ) -> u32
-    ensures read { result ≡ 0 → IsTextRead text.now bits (memory nodes.old attributes.old definitions.old names.old)
-        (memory nodes.new attributes.new definitions.new names.new) counts.new }
+    ensures read { result ≡ 0 → IsTextRead text.now bits (memory nodes.old attributes.old definitions.old strings.old)
+        (memory nodes.new attributes.new definitions.new strings.new) counts.new }
     ensures out_of_memory { result ≡ 1 → IsReadable text.now bits }
     ensures not_utf8 { result ≡ 2 → IsNotUtf8 text.now bits }
     ensures bad_options { result ≡ 3 → AreKnown bits → ⊥ }
     ensures too_small { result ≡ 4
-        → IsTooSmall text.now bits (memory nodes.old attributes.old definitions.old names.old) counts.new }
+        → IsTooSmall text.now bits (memory nodes.old attributes.old definitions.old strings.old) counts.new }
     ensures too_long { result ≡ 5 → IsTooLong text.now bits }
     ensures status { result ≤ 5 }
     ensures counted { result ≢ 0 → result ≢ 4 → counts.new ≡ counts.old }
-    ensures unchanged { result ≢ 0 → result ≢ 5 → memory nodes.new attributes.new definitions.new names.new
-        ≡ memory nodes.old attributes.old definitions.old names.old }
+    ensures unchanged { result ≢ 0 → result ≢ 5 → memory nodes.new attributes.new definitions.new strings.new
+        ≡ memory nodes.old attributes.old definitions.old strings.old }
 {
     let parsed = match read_text(alloc, text, bits) {
         Ok(parsed) => parsed,
         Err(fault) => return status_of(fault),
     };
-    match write_into(&parsed, nodes, attributes, definitions, names) {
+    match write_into(&parsed, nodes, attributes, definitions, strings) {
         Ok(()) => {
             *counts = parsed.counts();
             0
@@ -108,7 +108,11 @@ pub extern "C" fn first_pass_fold(
 ///
 /// `node` is the record of a node of the text. Nothing is allocated.
 #[unsafe(no_mangle)]
-pub extern "C" fn first_pass_name_range(text: &[u8], node: &FlatNode, range: &mut FlatRange) -> u32
+pub extern "C" fn first_pass_string_range(
+    text: &[u8],
+    node: &FlatNode,
+    range: &mut FlatRange,
+) -> u32
     ensures some { result ≡ 1 → (found : Range ℕ) × (range_named text.now node.now ≡ Some found)
         × (range.new ≡ flat_range found) }
     ensures none { result ≡ 0 → range_named text.now node.now ≡ None }

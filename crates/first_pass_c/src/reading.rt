@@ -32,8 +32,7 @@ pub struct FlatCounts {
     /// The link definitions, then the labels of footnotes.
     pub definitions: usize,
     pub links: usize,
-    /// In bytes.
-    pub names: usize,
+    pub string_bytes: usize,
 }
 
 /// A tree with its tables, and the other parts of their flat form.
@@ -55,7 +54,7 @@ impl<'a> Parsed<'a> {
             attributes: self.side.attributes.len(),
             definitions: self.side.definitions.len(),
             links: self.side.links,
-            names: self.side.names.len(),
+            string_bytes: self.side.names.len(),
         }
     }
 }
@@ -111,7 +110,7 @@ pub(crate) fn write_into(
     if nodes.len() < needed.nodes
         || attributes.len() < needed.attributes
         || definitions.len() < needed.definitions
-        || names.len() < needed.names
+        || names.len() < needed.string_bytes
     {
         return Err(Fault::TooSmall);
     }

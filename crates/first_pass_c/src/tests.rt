@@ -2,7 +2,7 @@
 
 use crate::flat::records::{FlatAttribute, FlatDefinition, FlatNode};
 use crate::reading::FlatCounts;
-use crate::{first_pass_fold, first_pass_read};
+use crate::{first_pass_fold, first_pass_parse_into};
 use std::alloc::Global;
 use std::test::Fail;
 
@@ -11,8 +11,8 @@ const NODE: FlatNode = FlatNode {
     end: 0,
     depth: 0,
     next: 0,
-    name: 0,
-    name_length: 0,
+    string_start: 0,
+    string_length: 0,
     number: 0,
     kind: 99,
     first: 0,
@@ -39,11 +39,11 @@ const COUNTS: FlatCounts = FlatCounts {
     attributes: 0,
     definitions: 0,
     links: 0,
-    names: 0,
+    string_bytes: 0,
 };
 
 // A heading with an id, a class and a key, fenced code, a link definition and a footnote: 8 nodes, 3 attributes, 2
-// definitions and 13 bytes of names.
+// definitions and 13 bytes of strings.
 const TEXT: &[u8] = b"# a {#i .c k=v}\n~~~ x&copy;\nb\n~~~\n[L]: /u 't'\n\n[^f]: g\n";
 
 // Footnotes and heading attributes.
@@ -66,7 +66,7 @@ fn read_within(alloc: Global, text: &[u8], bits: u32, room: [usize; 4]) -> (u32,
     let mut definitions = [DEFINITION; 3];
     let mut names = [b'?'; 14];
     let mut counts = COUNTS;
-    let status = first_pass_read(
+    let status = first_pass_parse_into(
         alloc,
         text,
         bits,
@@ -92,7 +92,7 @@ fn a_text_is_read_whole(rt: HostRuntime) -> Result<(), Fail> {
     let (nodes, attributes, definitions) = (filled.nodes, filled.attributes, filled.definitions);
     assert!(rt; status == 0);
     assert!(rt; has_counts(&filled.counts));
-    assert!(rt; nodes[1].kind == 4 && nodes[1].next == 3 && nodes[1].name_length == 3);
+    assert!(rt; nodes[1].kind == 4 && nodes[1].next == 3 && nodes[1].string_length == 3);
     assert!(rt; nodes[3].kind == 5 && nodes[3].start == 16 && nodes[3].end == 33);
     assert!(rt; nodes[7].depth == 3 && nodes[7].start == 53 && nodes[8].kind == 99);
     assert!(rt; attributes[0].kind == 0 && attributes[1].kind == 1 && attributes[2].kind == 2);
@@ -106,7 +106,7 @@ fn a_text_is_read_whole(rt: HostRuntime) -> Result<(), Fail> {
 // Whether these are the counts of `TEXT`.
 fn has_counts(counts: &FlatCounts) -> bool {
     (counts.nodes == 8 && counts.attributes == 3 && counts.definitions == 2)
-        && (counts.links == 1 && counts.names == 13)
+        && (counts.links == 1 && counts.string_bytes == 13)
 }
 
 #[test]

@@ -5,9 +5,11 @@ reads CommonMark, with no extension.
     >>> text = "# One {#first}\\n\\n> See [two].\\n\\n[two]: /2 'b'\\n"
     >>> document = first_pass.parse(text, first_pass.Options.DOCS)
     >>> document.outline()
-    [Heading(level=1, start=0, end=15, id='first', title='One')]
+    [Heading(level=1, start=0, end=15, id='first', text='One')]
     >>> [(node.kind, node.start, node.end) for node in document[:5]]
-    [('Root', 0, 44), ('Heading', 0, 15), ('Text', 2, 5), ('BlockQuote', 16, 29), ('Paragraph', 18, 29)]
+    [(Kind.Root, 0, 44), (Kind.Heading, 0, 15), (Kind.Text, 2, 5), (Kind.BlockQuote, 16, 29), (Kind.Paragraph, 18, 29)]
+    >>> [document.slice(document[index]) for index in document.find(first_pass.Kind.Text)]
+    ['One', 'See ', 'two', '.']
     >>> two = document.definitions["TWO"]
     >>> two.destination, two.title, document.slice(two.title_range)
     ('/2', 'b', "'b'")
@@ -17,10 +19,14 @@ reads CommonMark, with no extension.
     Place(line=3, column=1)
 
 `parse` and `outline` read a text, `parse_many` reads many in threads. A `Document` is a sequence of nodes.
+
+Ranges nest: siblings never overlap, and a node lies within its parent. There is one exception: a `TaskListMarker` may
+start before the paragraph, the heading or the title of a definition list that it is the first child of. It then lies in
+the same list item.
 """
 
 from ._document import Definitions, Document
-from ._errors import MarkdownError
+from ._errors import InputError
 from ._library import VERSION as __version__
 from ._lines import json_lines
 from ._many import parse_many
@@ -35,8 +41,8 @@ __all__ = [
     "Definitions",
     "Document",
     "Heading",
+    "InputError",
     "Kind",
-    "MarkdownError",
     "Node",
     "Options",
     "Place",

@@ -14,7 +14,7 @@ from typing import Any, Callable, NamedTuple, NoReturn
 
 from . import __version__
 from ._document import Document
-from ._errors import OUT_OF_MEMORY, MarkdownError
+from ._errors import OUT_OF_MEMORY, InputError
 from ._library import LineIndex
 from ._lines import json_line, json_lines
 from ._options import Options
@@ -138,7 +138,7 @@ def _output(file: str, lines_of: Callable[[str, Document], Iterable[str]], optio
         return Output(file, lines_of(file, parse(source, options)), warning)
     except UnicodeEncodeError:
         return Output(file, fault="the name is not UTF-8, so JSON can't have it", status=_FAILED)
-    except MarkdownError as error:
+    except InputError as error:
         return Output(file, fault=_fault_of(error, source), status=_FAILED)
     except MemoryError:
         return Output(file, fault=_NO_MEMORY, status=OUT_OF_MEMORY)
@@ -150,7 +150,7 @@ def _output(file: str, lines_of: Callable[[str, Document], Iterable[str]], optio
         return Output(file, fault=f"can't be read: {(error.strerror or str(error)).lower()}", status=_FAILED)
 
 
-def _fault_of(error: MarkdownError, source: bytes) -> str:
+def _fault_of(error: InputError, source: bytes) -> str:
     """What is wrong with a text. An offset has its line and its column too, as editors count."""
     if error.offset is None:
         return str(error)

@@ -7,8 +7,8 @@ import operator
 from collections.abc import Iterator, Mapping, Sequence
 from typing import TYPE_CHECKING, Any, Union, overload
 
-from ._library import COMPATIBLE, LineIndex, fold_label, name_range
-from ._records import ATTRIBUTE, BYTE_COLUMNS, DEFINITION, KIND_NAMES, NODE, WORD_BYTES, WORD_COLUMNS, Kind
+from ._library import COMPATIBLE, LineIndex, fold_label, string_range
+from ._records import ATTRIBUTE, BYTE_COLUMNS, DEFINITION, KINDS, NODE, WORD_BYTES, WORD_COLUMNS, Kind
 from ._values import Attribute, Definition, Heading, Node, Place, Span, id_of
 
 if TYPE_CHECKING:
@@ -17,24 +17,26 @@ if TYPE_CHECKING:
 Ranged = Union[Node, Heading, Definition, Span]
 
 _ATTRIBUTE_KINDS = ("id", "class", "key")
-_BREAKS = (Kind.SoftBreak, Kind.HardBreak)
-_ESCAPABLE = (Kind.Text, Kind.MaybeCode)
+_HEADING = Kind.Heading.number
+_BREAKS = (Kind.SoftBreak.number, Kind.HardBreak.number)
+_ESCAPABLE = (Kind.Text.number, Kind.MaybeCode.number)
 _BYTE_PLACES = {name: WORD_BYTES * len(WORD_COLUMNS) + place for place, name in enumerate(BYTE_COLUMNS)}
 
 
 class Document(Sequence[Node]):
     """A text with its tree: a sequence of the nodes in reading order, the root first.
 
-    A node is made from its record when it is asked for. Offsets are those of the bytes in `source`. A document can't
-    be changed, and it can be pickled.
+    A node is made from its record when it is asked for. Offsets are those of the bytes in `source`. Siblings never
+    overlap, and a node lies within its parent, with one exception: see `Node`. A document can't be changed, and it can
+    be pickled.
     """
 
-    __slots__ = ("_source", "_nodes", "_names", "_attributes", "_definitions", "_kinds", "_by_label", "_index")
+    __slots__ = ("_source", "_nodes", "_strings", "_attributes", "_definitions", "_kinds", "_by_label", "_index")
 
-    def __init__(self, source: bytes, nodes: bytes, names: bytes, attributes: bytes, definitions: bytes) -> None:
+    def __init__(self, source: bytes, nodes: bytes, strings: bytes, attributes: bytes, definitions: bytes) -> None:
         self._source = source
         self._nodes = nodes
-        self._names = names
+        self._strings = strings
         self._attributes = attributes
         self._definitions = definitions
         self._kinds: bytes | None = None
@@ -47,14 +49,14 @@ class Document(Sequence[Node]):
         return self._source
 
     @property
-    def nodes(self) -> bytes:
+    def node_records(self) -> bytes:
         """The records of the nodes, 32 bytes each: ``struct first_pass_node``."""
         return self._nodes
 
     @property
-    def names(self) -> bytes:
-        """The bytes that records name."""
-        return self._names
+    def strings(self) -> bytes:
+        """The bytes of all strings, of which records have ranges."""
+        return self._strings
 
     @property
     def attribute_records(self) -> bytes:
@@ -72,14 +74,14 @@ class Document(Sequence[Node]):
         """The link definitions by label. A label is matched as that of a reference is: without regard to case, and
         each run of white space as one space."""
         if self._by_label is None:
-            self._by_label = Definitions(self._definitions[: self._links_end()], self._names)
+            self._by_label = Definitions(self._definitions[: self._links_end()], self._strings)
         return self._by_label
 
     @property
     def footnotes(self) -> Sequence[str]:
         """The labels of the footnotes that are defined, as they are spelled, in the byte order of their foldings."""
         records = DEFINITION.iter_unpack(memoryview(self._definitions)[self._links_end() :])
-        return tuple(self._named(label, length) for _, _, label, length, *_ in records)
+        return tuple(self._string(label, length) for _, _, label, length, *_ in records)
 
     def __len__(self) -> int:
         return len(self._nodes) // NODE.size
@@ -120,7 +122,8 @@ class Document(Sequence[Node]):
     def column(self, name: str) -> memoryview:
         """A column of all records of nodes, as integers. It is a strided view, and no copy.
 
-        The columns are ``start end depth next name name_length number``, and ``kind first second third``.
+        The columns are ``start end depth next string_start string_length number``, and
+        ``kind first second third``. Of a `Kind` the column has the `number`.
         """
         if name in _BYTE_PLACES:
             return memoryview(self._nodes)[_BYTE_PLACES[name] :: NODE.size]
@@ -143,14 +146,16 @@ class Document(Sequence[Node]):
             yield child
             child = after[child]
 
-    def find(self, kind: Kind) -> Iterator[int]:
-        """The indices of the nodes of a kind, in reading order."""
+    def find(self, kind: Kind | str) -> Iterator[int]:
+        """The indices of the nodes of a kind, in reading order: ``document[index]`` is such a node. The kind is a `Kind`
+        or its name; ``KeyError`` says that there is none of a name."""
+        number = kind.number if isinstance(kind, Kind) else Kind[kind].number
         if self._kinds is None:
             self._kinds = bytes(self.column("kind"))
-        found = self._kinds.find(kind)
+        found = self._kinds.find(number)
         while found >= 0:
             yield found
-            found = self._kinds.find(kind, found + 1)
+            found = self._kinds.find(number, found + 1)
 
     def outline(self) -> list[Heading]:
         """The headings, in reading order and at any depth."""
@@ -160,15 +165,15 @@ class Document(Sequence[Node]):
         """The text of a range: that of a node, a heading or a definition."""
         return self._source[node.start : node.end].decode()
 
-    def name_range(self, index: int) -> Span | None:
-        """Where the text has what the node at an index names: the info string of a fenced code block, the label of a
-        footnote definition, or the attributes of a heading, between the braces. None if it names nothing that the text
-        has.
+    def string_range(self, index: int) -> Span | None:
+        """Where the text has the info string of a fenced code block, the label of a footnote definition, or the
+        attributes of a heading, between the braces. None of a node of another kind, and of a heading without an
+        attribute block.
 
         The range has the bytes as they are written, with escapes and references.
         """
         place = range(len(self))[index] * NODE.size
-        found = name_range(self._source, self._nodes[place : place + NODE.size])
+        found = string_range(self._source, self._nodes[place : place + NODE.size])
         return None if found is None else Span(*found)
 
     def line_column(self, offset: int, encoding: str = "utf-16") -> Place:
@@ -191,24 +196,24 @@ class Document(Sequence[Node]):
         return Place(line, column if encoding == "utf-8" else utf16_column)
 
     def _records(self) -> tuple[bytes, bytes, bytes, bytes, bytes]:
-        return self._source, self._nodes, self._names, self._attributes, self._definitions
+        return self._source, self._nodes, self._strings, self._attributes, self._definitions
 
     def _links_end(self) -> int:
         """Where the records of link definitions end. Those of footnotes' labels, which come after, have no range."""
         return DEFINITION.size * sum(1 for _, end, *_ in DEFINITION.iter_unpack(self._definitions) if end)
 
-    def _named(self, start: int, length: int) -> str:
-        return self._names[start : start + length].decode()
+    def _string(self, start: int, length: int) -> str:
+        return self._strings[start : start + length].decode()
 
     def _node(self, record: tuple[int, ...]) -> Node:
-        start, end, depth, after, name, length, number, kind, first, second, third = record
-        text: str = ""
+        start, end, depth, after, string_start, length, number, kind, first, second, third = record
+        string = ""
         attributes: tuple[Attribute, ...] = ()
-        if length and kind == Kind.Heading:
-            attributes = self._attributes_at(name, length)
+        if length and kind == _HEADING:
+            attributes = self._attributes_at(string_start, length)
         elif length:
-            text = self._named(name, length)
-        return Node(KIND_NAMES[kind], depth, start, end, after, number, first, second, third, text, attributes)
+            string = self._string(string_start, length)
+        return Node(KINDS[kind], depth, start, end, after, number, first, second, third, string, attributes)
 
     def _attributes_at(self, index: int, count: int) -> tuple[Attribute, ...]:
         records = ATTRIBUTE.iter_unpack(
@@ -217,18 +222,18 @@ class Document(Sequence[Node]):
         return tuple(
             Attribute(
                 _ATTRIBUTE_KINDS[kind],
-                self._named(name, name_length),
-                self._named(value, value_length) if has_value else None,
+                self._string(name, name_length),
+                self._string(value, value_length) if has_value else None,
             )
             for name, name_length, value, value_length, has_value, kind in records
         )
 
     def _heading(self, index: int) -> Heading:
-        start, end, _, after, name, length, _, _, level, _, _ = NODE.unpack_from(self._nodes, index * NODE.size)
-        id = id_of(self._attributes_at(name, length)) if length else None
-        return Heading(level, start, end, id, self._title(index, after))
+        start, end, _, after, attribute, length, _, _, level, _, _ = NODE.unpack_from(self._nodes, index * NODE.size)
+        id = id_of(self._attributes_at(attribute, length)) if length else None
+        return Heading(level, start, end, id, self._text(index, after))
 
-    def _title(self, index: int, after: int) -> str:
+    def _text(self, index: int, after: int) -> str:
         """The Markdown of the heading at an index, from its first token to its last, with a space for each break. The
         prefixes of containers, which stand between a break and the next token, are left out."""
         parts: list[bytes] = []
@@ -256,11 +261,11 @@ class Definitions(Mapping[str, Definition]):
     Its keys are the labels as they are spelled. A look-up matches a label as that of a reference is matched.
     """
 
-    __slots__ = ("_records", "_names", "_places")
+    __slots__ = ("_records", "_strings", "_places")
 
-    def __init__(self, records: bytes, names: bytes) -> None:
+    def __init__(self, records: bytes, strings: bytes) -> None:
         self._records = records
-        self._names = names
+        self._strings = strings
         self._places: dict[bytes | None, int] | None = None
 
     def __getitem__(self, label: str) -> Definition:
@@ -273,7 +278,7 @@ class Definitions(Mapping[str, Definition]):
 
     def __iter__(self) -> Iterator[str]:
         for _, _, label, length, *_ in DEFINITION.iter_unpack(self._records):
-            yield self._named(label, length)
+            yield self._string(label, length)
 
     def __len__(self) -> int:
         return len(self._records) // DEFINITION.size
@@ -281,17 +286,17 @@ class Definitions(Mapping[str, Definition]):
     def __repr__(self) -> str:
         return f"<first_pass.Definitions: {', '.join(self)}>"
 
-    def _named(self, start: int, length: int) -> str:
-        return self._names[start : start + length].decode()
+    def _string(self, start: int, length: int) -> str:
+        return self._strings[start : start + length].decode()
 
     def _definition(self, place: int) -> Definition:
         record = DEFINITION.unpack_from(self._records, place * DEFINITION.size)
         start, end, label, label_length, destination, destination_length, title, title_length, has_title = record[:9]
         label_end, destination_start, destination_end, title_start = record[9:]
         return Definition(
-            self._named(label, label_length),
-            self._named(destination, destination_length),
-            self._named(title, title_length) if has_title else None,
+            self._string(label, label_length),
+            self._string(destination, destination_length),
+            self._string(title, title_length) if has_title else None,
             start,
             end,
             Span(start + 1, label_end),

@@ -7,7 +7,7 @@ from typing import Any
 OK, OUT_OF_MEMORY, NOT_UTF8, BAD_OPTIONS, TOO_SMALL, TOO_LONG = range(6)
 
 
-class MarkdownError(ValueError):
+class InputError(ValueError):
     """A text that isn't UTF-8 or is too long, or options that don't exist."""
 
     def __init__(self, message: str, status: int, index: int | None = None, offset: int | None = None) -> None:
@@ -20,7 +20,7 @@ class MarkdownError(ValueError):
         """The offset of the first byte that isn't UTF-8."""
 
     def __reduce__(self) -> tuple[Any, ...]:
-        return MarkdownError, (str(self), self.status, self.index, self.offset)
+        return InputError, (str(self), self.status, self.index, self.offset)
 
 
 def fault_of(status: int, source: bytes, options: int) -> Exception:
@@ -30,16 +30,16 @@ def fault_of(status: int, source: bytes, options: int) -> Exception:
     if status == NOT_UTF8:
         return _not_utf8(source)
     if status == BAD_OPTIONS:
-        return MarkdownError(f"bad options: {options}", status)
+        return InputError(f"bad options: {options}", status)
     if status == TOO_LONG:
-        return MarkdownError("too long: a text, and each number of its tree, has to stay below 4 GiB", status)
-    return MarkdownError(f"unknown status {status}", status)
+        return InputError("too long: a text, and each number of its tree, has to stay below 4 GiB", status)
+    return InputError(f"unknown status {status}", status)
 
 
-def _not_utf8(source: bytes) -> MarkdownError:
+def _not_utf8(source: bytes) -> InputError:
     """The error of bytes that are not UTF-8, with the offset of the first wrong byte."""
     try:
         source.decode()
     except UnicodeDecodeError as error:
-        return MarkdownError(f"not UTF-8: byte {error.start}", NOT_UTF8, offset=error.start)
-    return MarkdownError("not UTF-8", NOT_UTF8)
+        return InputError(f"not UTF-8: byte {error.start}", NOT_UTF8, offset=error.start)
+    return InputError("not UTF-8", NOT_UTF8)

@@ -35,18 +35,18 @@ def _open() -> ctypes.CDLL:
 _library = _open()
 VERSION: str = _library.first_pass_version().decode()
 
-# Its arguments are the text and its length, the options, the arrays with their rooms, and the counts. They have no types
-# here: a caller makes objects of ctypes for its memory once, which would be converted again at each call.
-read = _library.first_pass_read_arrays
-read.restype = ctypes.c_uint32
+# Its arguments are the text and its length, the options, the arrays with their capacities, and the counts. They have no
+# types here: a caller makes objects of ctypes for its memory once, which would be converted again at each call.
+parse_into_arrays = _library.first_pass_parse_into_arrays
+parse_into_arrays.restype = ctypes.c_uint32
 
 _fold = _library.first_pass_fold
 _fold.restype = ctypes.c_uint32
 _fold.argtypes = [ctypes.c_char_p, ctypes.c_size_t, ctypes.c_char_p, ctypes.c_size_t, ctypes.POINTER(ctypes.c_size_t)]
 
-_name_range = _library.first_pass_name_range
-_name_range.restype = ctypes.c_uint32
-_name_range.argtypes = [ctypes.c_char_p, ctypes.c_size_t, ctypes.c_char_p, ctypes.c_size_t * 2]
+_string_range = _library.first_pass_string_range
+_string_range.restype = ctypes.c_uint32
+_string_range.argtypes = [ctypes.c_char_p, ctypes.c_size_t, ctypes.c_char_p, ctypes.c_size_t * 2]
 
 _place_count = _library.first_pass_place_count
 _place_count.restype = ctypes.c_size_t
@@ -75,10 +75,10 @@ def fold_label(label: str) -> bytes | None:
     return _folded(spelled, 3 * len(spelled) + 1)
 
 
-def name_range(source: bytes, record: bytes) -> tuple[int, int] | None:
-    """Where a text has what the node with a record names: its start and its end, or None if it doesn't have it."""
+def string_range(source: bytes, record: bytes) -> tuple[int, int] | None:
+    """Where a text has the string or the attributes of the node with a record: the start and the end, or None."""
     memory = (ctypes.c_size_t * 2)()
-    found = _name_range(source, len(source), record, memory)
+    found = _string_range(source, len(source), record, memory)
     return (memory[0], memory[1]) if found else None
 
 
@@ -100,11 +100,11 @@ class LineIndex:
         return line, column, utf16_column
 
 
-def _folded(label: bytes, room: int) -> bytes:
+def _folded(label: bytes, capacity: int) -> bytes:
     """The case folding of a label, which is written into memory of a size, or into more if that is too small."""
-    memory = ctypes.create_string_buffer(room)
+    memory = ctypes.create_string_buffer(capacity)
     length = ctypes.c_size_t()
-    status = _fold(label, len(label), memory, room, ctypes.byref(length))
+    status = _fold(label, len(label), memory, capacity, ctypes.byref(length))
     if status == TOO_SMALL:
         return _folded(label, length.value)
     if status != OK:

@@ -7,7 +7,7 @@ from functools import partial
 from typing import Callable, Literal, Union, overload
 
 from ._document import Document
-from ._errors import MarkdownError
+from ._errors import InputError
 from ._options import Options
 from ._order import in_order, processors
 from ._parse import Text, parse, unchanging
@@ -62,7 +62,7 @@ def parse_many(
     that can be changed, such as a ``bytearray``, is copied when it is taken. So it can be filled again for the next.
     With ``strip_bom`` a byte order mark at the start of a text is left out, as `parse` does.
 
-    If a text can't be parsed, its exception says its place: ``text 3: not UTF-8: byte 17``. A `MarkdownError` has the
+    If a text can't be parsed, its exception says its place: ``text 3: not UTF-8: byte 17``. A `InputError` has the
     place as its ``index``. With ``on_error="raise"`` the documents before it are yielded first, and then it is raised.
     With ``on_error="yield"`` it is yielded in the place of its document, and the texts after it are parsed. What the
     iterable raises comes after the documents of the texts before, and is raised in both cases. Bad options are raised
@@ -133,8 +133,8 @@ def _parse_chunk(parse_text: Callable[[Text], Document], chunk: Chunk) -> list[R
 def _placed(error: Exception, index: int) -> Exception:
     """An exception that says which text it is of."""
     message = f"text {index}: {error}"
-    if isinstance(error, MarkdownError):
-        return MarkdownError(message, error.status, index, error.offset)
+    if isinstance(error, InputError):
+        return InputError(message, error.status, index, error.offset)
     if isinstance(error, (MemoryError, TypeError)):
         return type(error)(message)
     return error

@@ -7,7 +7,7 @@ import operator
 from typing import Union
 
 from ._document import Document
-from ._errors import BAD_OPTIONS, NOT_UTF8, MarkdownError
+from ._errors import BAD_OPTIONS, NOT_UTF8, InputError
 from ._options import Options
 from ._scratch import read_document
 from ._values import Heading
@@ -23,12 +23,12 @@ def parse(text: Text, options: int = Options.COMMONMARK, *, strip_bom: bool = Fa
     A byte order mark at the start is a character of the text. With ``strip_bom`` it is left out: the source of the
     document begins after it, and all offsets are counted from there.
 
-    Other threads of the interpreter run meanwhile. `MarkdownError` says what is wrong with the text or the options.
+    Other threads of the interpreter run meanwhile. `InputError` says what is wrong with the text or the options.
     ``MemoryError`` says that memory ran out.
     """
     bits = operator.index(options)
     if not 0 <= bits < _OPTION_LIMIT:
-        raise MarkdownError(f"bad options: {int(bits)}", BAD_OPTIONS)
+        raise InputError(f"bad options: {int(bits)}", BAD_OPTIONS)
     source = text if type(text) is bytes else _encoded(text)
     return read_document(source.removeprefix(codecs.BOM_UTF8) if strip_bom else source, bits)
 
@@ -58,7 +58,7 @@ def _encoded(text: Text) -> bytes:
             return str.encode(text)
         except UnicodeEncodeError as error:
             message = f"not UTF-8: the string has a lone surrogate at index {error.start}"
-            raise MarkdownError(message, NOT_UTF8) from None
+            raise InputError(message, NOT_UTF8) from None
     try:
         return memoryview(text).tobytes()
     except TypeError:

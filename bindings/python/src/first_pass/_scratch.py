@@ -8,12 +8,12 @@ import threading
 
 from ._document import Document
 from ._errors import OK, TOO_SMALL, fault_of
-from ._library import read
+from ._library import parse_into_arrays
 from ._records import ATTRIBUTE, COUNTS, DEFINITION, NODE
 
 # What a thread keeps at most between two calls, in bytes.
 KEPT = 64 << 20
-# The trees of most texts up to this length have room in the first memory of a thread.
+# The trees of most texts up to this length fit into the first memory of a thread.
 _FIRST_LENGTH = 64 << 10
 # The least number of bytes for each node that most texts have.
 _BYTES_A_NODE = 6
@@ -25,16 +25,16 @@ _MAPPING = mmap.MAP_PRIVATE | mmap.MAP_ANONYMOUS | 0x4000
 
 
 class Scratch:
-    """Memory for the records of a tree: counts, nodes, attributes, definitions, names.
+    """Memory for the records of a tree: counts, nodes, attributes, definitions, strings.
 
-    It is a private mapping. Pages that are never written take no memory, so the rooms are ample, and a process that is
-    forked has a copy of its own. The trees of most texts up to `fits_length` bytes have room.
+    It is a private mapping. Pages that are never written take no memory, so the capacities are ample, and a process
+    that is forked has a copy of its own. The trees of most texts up to `fits_length` bytes fit.
     """
 
-    def __init__(self, nodes: int, attributes: int, definitions: int, names: int) -> None:
-        self._rooms = (nodes, attributes, definitions, names)
+    def __init__(self, nodes: int, attributes: int, definitions: int, string_bytes: int) -> None:
+        self._capacities = (nodes, attributes, definitions, string_bytes)
         self.fits_length = nodes * _BYTES_A_NODE
-        sizes = (COUNTS.size, nodes * _NODE, attributes * _ATTRIBUTE, definitions * _DEFINITION, names)
+        sizes = (COUNTS.size, nodes * _NODE, attributes * _ATTRIBUTE, definitions * _DEFINITION, string_bytes)
         places = [0]
         for size in sizes:
             places.append(places[-1] + -(-size // _ALIGNMENT) * _ALIGNMENT)
@@ -45,38 +45,38 @@ class Scratch:
         except OSError as error:
             raise MemoryError("out of memory") from error
         address = ctypes.addressof(ctypes.c_char.from_buffer(self._memory))
-        arrays = [word for place, room in zip(self._places, self._rooms) for word in (address + place, room)]
+        arrays = [word for array in zip(self._places, self._capacities) for word in (address + array[0], array[1])]
         self._arrays = (ctypes.c_size_t * len(arrays))(*arrays)
         self._arguments = (ctypes.c_void_p(ctypes.addressof(self._arrays)), ctypes.c_void_p(address))
         self._length = ctypes.c_size_t()
 
     @classmethod
     def for_length(cls, length: int) -> Scratch:
-        """Memory in which the trees of most texts of a length have room."""
+        """Memory into which the trees of most texts of a length fit."""
         length = max(length, _FIRST_LENGTH)
         return cls(length // _BYTES_A_NODE + 1, length // 256, length // 128, length // 4)
 
     def larger(self) -> Scratch:
-        """Memory for the tree that had no room in this one."""
-        nodes, attributes, definitions, _links, names = COUNTS.unpack_from(self._memory)
-        wanted = (nodes, attributes, definitions, names)
-        return Scratch(*(max(room, count) for room, count in zip(self._rooms, wanted)))
+        """Memory for the tree that did not fit into this one."""
+        nodes, attributes, definitions, _links, string_bytes = COUNTS.unpack_from(self._memory)
+        wanted = (nodes, attributes, definitions, string_bytes)
+        return Scratch(*(max(capacity, count) for capacity, count in zip(self._capacities, wanted)))
 
-    def read(self, source: bytes, options: int) -> int:
-        """Reads the tree of a text. The status is that of the library."""
+    def parse(self, source: bytes, options: int) -> int:
+        """Parses a text. The status is that of the library."""
         self._length.value = len(source)
-        status: int = read(source, self._length, options, *self._arguments)
+        status: int = parse_into_arrays(source, self._length, options, *self._arguments)
         return status
 
     def document(self, source: bytes) -> Document:
-        """The document of the text that was read last, with copies of its records."""
-        nodes, attributes, definitions, _links, names = COUNTS.unpack_from(self._memory)
+        """The document of the text that was parsed last, with copies of its records."""
+        nodes, attributes, definitions, _links, string_bytes = COUNTS.unpack_from(self._memory)
         memory = self._memory
-        at, at_attributes, at_definitions, at_names = self._places
+        at, at_attributes, at_definitions, at_strings = self._places
         return Document(
             source,
             memory[at : at + nodes * _NODE],
-            memory[at_names : at_names + names] if names else b"",
+            memory[at_strings : at_strings + string_bytes] if string_bytes else b"",
             memory[at_attributes : at_attributes + attributes * _ATTRIBUTE] if attributes else b"",
             memory[at_definitions : at_definitions + definitions * _DEFINITION] if definitions else b"",
         )
@@ -96,10 +96,10 @@ def read_document(source: bytes, options: int) -> Document:
     scratch, _kept.scratch = _kept.scratch, None
     if scratch is None or len(source) > scratch.fits_length:
         scratch = Scratch.for_length(len(source))
-    status = scratch.read(source, options)
+    status = scratch.parse(source, options)
     if status == TOO_SMALL:
         scratch = scratch.larger()
-        status = scratch.read(source, options)
+        status = scratch.parse(source, options)
     document = scratch.document(source) if status == OK else None
     if scratch.size <= KEPT:
         _kept.scratch = scratch

@@ -4,6 +4,8 @@ from __future__ import annotations
 
 from typing import Any, Callable, NamedTuple
 
+from ._records import Kind
+
 
 class Attribute(NamedTuple):
     """An attribute of a heading: ``#install`` is an id, ``.wide`` a class, ``lang=en`` and ``draft`` are keys."""
@@ -24,7 +26,7 @@ class Heading(NamedTuple):
     end: int
     id: str | None
     """The id that its attribute block gives."""
-    title: str
+    text: str
     """Its Markdown, with a space for each line ending."""
 
 
@@ -62,11 +64,15 @@ class Definition(NamedTuple):
 class Node(NamedTuple):
     """A node: its kind, its depth, its range in bytes of the source, and what its record has for its kind.
 
-    `members` gives the values of its kind by name.
+    Siblings never overlap, and a node lies within its parent. There is one exception: a `TaskListMarker` may start
+    before the paragraph, the heading or the title of a definition list that it is the first child of. It then lies in
+    the same list item.
+
+    `members` gives the kind, the depth, the range and the values of the kind, each by name. The same values are in
+    `number`, `first`, `second` and `third`, as ``struct first_pass_node`` has them.
     """
 
-    kind: str
-    """The name of a `Kind`; ``"?"`` for a kind that this version doesn't know."""
+    kind: Kind
     depth: int
     """How many nodes it lies in: 0 for the root."""
     start: int
@@ -77,14 +83,15 @@ class Node(NamedTuple):
     first: int
     second: int
     third: int
-    name: str
+    string: str
     """An info string, a label or a text; of a table ``-``, ``l``, ``c`` or ``r`` for each column."""
     attributes: tuple[Attribute, ...]
     """The attributes of a heading: its id, its classes and its keys."""
 
     def members(self) -> dict[str, Any]:
-        """The members that the command ``tree`` writes of the node: ``{"kind": "Heading", "depth": 1, ..}``."""
-        members = {"kind": self.kind, "depth": self.depth, "start": self.start, "end": self.end}
+        """The kind, the depth, the range and the values of the kind, as the command ``tree`` writes them of the node:
+        ``{"kind": "Heading", "depth": 1, "start": 0, "end": 15, "level": 1, ..}``. The kind is its name."""
+        members = {"kind": self.kind.value, "depth": self.depth, "start": self.start, "end": self.end}
         own = _OWN_MEMBERS.get(self.kind)
         return members if own is None else {**members, **own(self)}
 
@@ -125,25 +132,25 @@ def _smart_quote(node: Node) -> dict[str, Any]:
 
 
 # The members of each kind that has some, beside those of all nodes.
-_OWN_MEMBERS: dict[str, Callable[[Node], dict[str, Any]]] = {
-    "Heading": _heading,
-    "FencedCodeBlock": lambda node: {"info": node.name},
-    "BlockQuote": lambda node: {"quote": _QUOTES[node.first]},
-    "List": _list,
-    "ListItem": lambda node: {"columns": node.number},
-    "FootnoteDefinition": lambda node: {"label": node.name},
-    "MetadataBlock": lambda node: {"metadata": _METADATA[node.first]},
-    "DefinitionList": lambda node: {"tight": bool(node.first)},
-    "DefinitionListDefinition": lambda node: {"columns": node.number},
-    "Table": lambda node: {"alignments": [_ALIGNMENTS[column] for column in node.name]},
-    "Text": lambda node: {"escaped": bool(node.first)},
-    "HardBreak": lambda node: {"by_backslash": bool(node.first)},
-    "MaybeEmphasis": _emphasis,
-    "MaybeMath": _math,
-    "MaybeSmartQuote": _smart_quote,
-    "MaybeCode": lambda node: {"count": node.number, "escaped": bool(node.first)},
-    "MaybeLinkClose": lambda node: {"active": bool(node.first)},
-    "SynthesizeText": lambda node: {"text": node.name},
-    "SynthesizeChar": lambda node: {"text": chr(node.number)},
-    "TaskListMarker": lambda node: {"checked": bool(node.first)},
+_OWN_MEMBERS: dict[Kind, Callable[[Node], dict[str, Any]]] = {
+    Kind.Heading: _heading,
+    Kind.FencedCodeBlock: lambda node: {"info": node.string},
+    Kind.BlockQuote: lambda node: {"quote": _QUOTES[node.first]},
+    Kind.List: _list,
+    Kind.ListItem: lambda node: {"columns": node.number},
+    Kind.FootnoteDefinition: lambda node: {"label": node.string},
+    Kind.MetadataBlock: lambda node: {"metadata": _METADATA[node.first]},
+    Kind.DefinitionList: lambda node: {"tight": bool(node.first)},
+    Kind.DefinitionListDefinition: lambda node: {"columns": node.number},
+    Kind.Table: lambda node: {"alignments": [_ALIGNMENTS[column] for column in node.string]},
+    Kind.Text: lambda node: {"escaped": bool(node.first)},
+    Kind.HardBreak: lambda node: {"by_backslash": bool(node.first)},
+    Kind.MaybeEmphasis: _emphasis,
+    Kind.MaybeMath: _math,
+    Kind.MaybeSmartQuote: _smart_quote,
+    Kind.MaybeCode: lambda node: {"count": node.number, "escaped": bool(node.first)},
+    Kind.MaybeLinkClose: lambda node: {"active": bool(node.first)},
+    Kind.SynthesizeText: lambda node: {"text": node.string},
+    Kind.SynthesizeChar: lambda node: {"text": chr(node.number)},
+    Kind.TaskListMarker: lambda node: {"checked": bool(node.first)},
 }

@@ -11,10 +11,10 @@ pub struct FlatNode {
     pub depth: u32,
     /// The index of the first later node that is not deeper, or the number of nodes.
     pub next: u32,
-    /// The range of the node's name in the names: an info string, a label, a text, or for a table one byte for each
+    /// The range of the node's string in the strings: an info string, a label, a text, or for a table one byte for each
     /// column, `-`, `l`, `c` or `r`. For a heading, the range of its attributes among all attributes.
-    pub name: u32,
-    pub name_length: u32,
+    pub string_start: u32,
+    pub string_length: u32,
     /// A list's first number; the indent of an item or a definition; how many delimiters of a run are left, this one
     /// included; how many backquotes; the brace context of a dollar sign; a character's code point. Otherwise 0.
     pub number: u32,
@@ -35,10 +35,10 @@ pub struct FlatNode {
 #[repr(C)]
 #[derive(Clone, Copy)]
 pub struct FlatAttribute {
-    /// The range of the id, the class or the key in the names.
+    /// The range of the id, the class or the key in the strings.
     pub name: usize,
     pub name_length: usize,
-    /// The range of the key's value in the names.
+    /// The range of the key's value in the strings.
     pub value: usize,
     pub value_length: usize,
     /// 1 for a key with a value, which may be empty. Otherwise 0.
@@ -48,7 +48,7 @@ pub struct FlatAttribute {
 }
 
 /// A link reference definition, or the label of a footnote. `label`, `destination` and `title` with their lengths are
-/// ranges in the names. Each other offset is in the text, and 0 for the label of a footnote.
+/// ranges in the strings. Each other offset is in the text, and 0 for the label of a footnote.
 #[repr(C)]
 #[derive(Clone, Copy)]
 pub struct FlatDefinition {

@@ -1,7 +1,7 @@
 /*
- * first_pass_read, first_pass_read_arrays and first_pass_fold over memory that ends at a page: with exactly the rooms
- * that a text takes, with each room one smaller, and with none. The guess of first_pass_parse, and the size of the
- * block that it keeps.
+ * first_pass_parse_into, first_pass_parse_into_arrays and first_pass_fold over memory that ends at a page: with
+ * exactly the capacities that a text takes, with each capacity one smaller, and with none. The guess of
+ * first_pass_parse, and the size of the block that it keeps.
  */
 #define _GNU_SOURCE
 #include "check.h"
@@ -10,71 +10,71 @@
 #include <stdlib.h>
 #include <string.h>
 
-#define ROOMS 4
-static const size_t sizes[ROOMS] = {sizeof(struct first_pass_node), sizeof(struct first_pass_attribute),
-                                    sizeof(struct first_pass_definition), 1};
+#define ARRAYS 4
+static const size_t sizes[ARRAYS] = {sizeof(struct first_pass_node), sizeof(struct first_pass_attribute),
+                                     sizeof(struct first_pass_definition), 1};
 
 static bool same_counts(const struct first_pass_counts *one, const struct first_pass_counts *other) {
     return memcmp(one, other, sizeof *one) == 0;
 }
 
-/* Reads a text into arrays of these rooms, each at the end of a page, by both calls. */
-static uint32_t read_at_edges(const char *text, size_t length, const size_t rooms[ROOMS], void *arrays[ROOMS],
-                              struct first_pass_counts *counts) {
+/* Parses a text into arrays of these capacities, each at the end of a page, by both calls. */
+static uint32_t parse_at_edges(const char *text, size_t length, const size_t capacities[ARRAYS], void *arrays[ARRAYS],
+                               struct first_pass_counts *counts) {
     uint8_t *copy = edge_memory(length);
     memcpy(copy, text, length);
-    for (int i = 0; i < ROOMS; i++) {
-        arrays[i] = edge_memory(rooms[i] * sizes[i]);
-        memset(arrays[i], 0xa5, rooms[i] * sizes[i]);
+    for (int i = 0; i < ARRAYS; i++) {
+        arrays[i] = edge_memory(capacities[i] * sizes[i]);
+        memset(arrays[i], 0xa5, capacities[i] * sizes[i]);
     }
-    uint32_t status = first_pass_read(copy, length, FIRST_PASS_OPT_ALL, arrays[0], rooms[0], arrays[1], rooms[1],
-                                      arrays[2], rooms[2], arrays[3], rooms[3], counts);
-    const struct first_pass_arrays lent = {arrays[0], rooms[0], arrays[1], rooms[1],
-                                           arrays[2], rooms[2], arrays[3], rooms[3]};
+    uint32_t status = first_pass_parse_into(copy, length, FIRST_PASS_OPT_ALL, arrays[0], capacities[0], arrays[1],
+                                            capacities[1], arrays[2], capacities[2], arrays[3], capacities[3], counts);
+    const struct first_pass_arrays lent = {arrays[0], capacities[0], arrays[1], capacities[1],
+                                           arrays[2], capacities[2], arrays[3], capacities[3]};
     struct first_pass_counts again = {0};
-    CHECK(first_pass_read_arrays(copy, length, FIRST_PASS_OPT_ALL, &lent, &again) == status);
+    CHECK(first_pass_parse_into_arrays(copy, length, FIRST_PASS_OPT_ALL, &lent, &again) == status);
     CHECK(same_counts(&again, counts));
     free_edge_memory(copy, length);
     return status;
 }
 
-static void free_arrays(const size_t rooms[ROOMS], void *arrays[ROOMS]) {
-    for (int i = 0; i < ROOMS; i++) {
-        free_edge_memory(arrays[i], rooms[i] * sizes[i]);
+static void free_arrays(const size_t capacities[ARRAYS], void *arrays[ARRAYS]) {
+    for (int i = 0; i < ARRAYS; i++) {
+        free_edge_memory(arrays[i], capacities[i] * sizes[i]);
     }
 }
 
 /* Whether the arrays hold the records of a tree. */
-static bool hold_tree(void *arrays[ROOMS], const struct first_pass_counts *counts,
+static bool hold_tree(void *arrays[ARRAYS], const struct first_pass_counts *counts,
                       const struct first_pass_tree *tree) {
-    struct first_pass_tree other = {arrays[0],           counts->nodes, arrays[1], counts->attributes, arrays[2],
-                                    counts->definitions, counts->links, arrays[3], counts->names};
+    struct first_pass_tree other = {arrays[0],           counts->nodes, arrays[1], counts->attributes,  arrays[2],
+                                    counts->definitions, counts->links, arrays[3], counts->string_bytes};
     return same_trees(&other, tree);
 }
 
-/* With rooms that are larger or smaller by some records. */
-static void test_read(const char *text, size_t length, const struct first_pass_tree *tree) {
-    const size_t takes[ROOMS] = {tree->node_count, tree->attribute_count, tree->definition_count, tree->name_bytes};
+/* With capacities that are larger or smaller by some records. */
+static void test_parse_into(const char *text, size_t length, const struct first_pass_tree *tree) {
+    const size_t takes[ARRAYS] = {tree->node_count, tree->attribute_count, tree->definition_count, tree->string_bytes};
     const struct first_pass_counts wanted = {takes[0], takes[1], takes[2], tree->link_count, takes[3]};
-    for (int changed = 0; changed < ROOMS; changed++) {
+    for (int changed = 0; changed < ARRAYS; changed++) {
         for (int change = -1; change <= 3; change++) {
-            size_t rooms[ROOMS];
-            void *arrays[ROOMS];
+            size_t capacities[ARRAYS];
+            void *arrays[ARRAYS];
             struct first_pass_counts counts = {0};
-            memcpy(rooms, takes, sizeof rooms);
-            if (change < 0 && rooms[changed] == 0) {
+            memcpy(capacities, takes, sizeof capacities);
+            if (change < 0 && capacities[changed] == 0) {
                 continue;
             }
-            rooms[changed] = change == 3 ? 0 : rooms[changed] + (size_t)change;
-            bool is_small = rooms[changed] < takes[changed];
-            uint32_t status = read_at_edges(text, length, rooms, arrays, &counts);
+            capacities[changed] = change == 3 ? 0 : capacities[changed] + (size_t)change;
+            bool is_small = capacities[changed] < takes[changed];
+            uint32_t status = parse_at_edges(text, length, capacities, arrays, &counts);
             CHECK(status == (is_small ? (uint32_t)FIRST_PASS_TOO_SMALL : (uint32_t)FIRST_PASS_OK));
             CHECK(same_counts(&counts, &wanted));
             CHECK(is_small || hold_tree(arrays, &counts, tree));
-            for (size_t i = takes[changed] * sizes[changed]; i < rooms[changed] * sizes[changed]; i++) {
+            for (size_t i = takes[changed] * sizes[changed]; i < capacities[changed] * sizes[changed]; i++) {
                 CHECK(((uint8_t *)arrays[changed])[i] == 0xa5);
             }
-            free_arrays(rooms, arrays);
+            free_arrays(capacities, arrays);
         }
     }
 }
@@ -83,16 +83,16 @@ static void test_fold(const char *label, const char *wanted) {
     size_t length = strlen(label), wanted_length = strlen(wanted);
     uint8_t *copy = edge_memory(length);
     memcpy(copy, label, length);
-    for (size_t room = 0; room <= wanted_length + 1; room++) {
-        uint8_t *folded = edge_memory(room);
+    for (size_t capacity = 0; capacity <= wanted_length + 1; capacity++) {
+        uint8_t *folded = edge_memory(capacity);
         size_t folded_length = SIZE_MAX;
-        memset(folded, 0xa5, room);
-        uint32_t status = first_pass_fold(copy, length, folded, room, &folded_length);
-        CHECK(status == (room < wanted_length ? (uint32_t)FIRST_PASS_TOO_SMALL : (uint32_t)FIRST_PASS_OK));
+        memset(folded, 0xa5, capacity);
+        uint32_t status = first_pass_fold(copy, length, folded, capacity, &folded_length);
+        CHECK(status == (capacity < wanted_length ? (uint32_t)FIRST_PASS_TOO_SMALL : (uint32_t)FIRST_PASS_OK));
         CHECK(folded_length == wanted_length);
-        CHECK(room < wanted_length || memcmp(folded, wanted, wanted_length) == 0);
-        CHECK(room <= wanted_length || folded[wanted_length] == 0xa5);
-        free_edge_memory(folded, room);
+        CHECK(capacity < wanted_length || memcmp(folded, wanted, wanted_length) == 0);
+        CHECK(capacity <= wanted_length || folded[wanted_length] == 0xa5);
+        free_edge_memory(folded, capacity);
     }
     free_edge_memory(copy, length);
 }
@@ -107,8 +107,8 @@ static unsigned long test_block(const char *text, size_t length) {
     CHECK(guarded.bytes == sizeof *tree + sizeof(struct first_pass_allocator) +
                                tree->node_count * sizeof *tree->nodes +
                                tree->attribute_count * sizeof *tree->attributes +
-                               tree->definition_count * sizeof *tree->definitions + tree->name_bytes);
-    test_read(text, length, tree);
+                               tree->definition_count * sizeof *tree->definitions + tree->string_bytes);
+    test_parse_into(text, length, tree);
     first_pass_tree_free(tree);
     CHECK(guarded.blocks == 0 && guarded.bytes == 0);
     return guarded.requests;
@@ -123,7 +123,7 @@ static char *repeated(const char *text, size_t times) {
     return all;
 }
 
-/* Texts that take more of a record than is guessed: nodes, attributes, definitions, names. */
+/* Texts that take more of a record than is guessed: nodes, attributes, definitions, strings. */
 static void test_dense(void) {
     static const char *const parts[] = {"*_", "# {#a .b .c .d e f=g h}\n", "[^a]:b\n", "&copy;",
                                         "~~~ abcdefghijklmnopqrst\n~~~\n"};
@@ -167,5 +167,5 @@ int main(void) {
     uint8_t folded[4];
     size_t length;
     CHECK(first_pass_fold((const uint8_t *)"\xff", 1, folded, sizeof folded, &length) == FIRST_PASS_NOT_UTF8);
-    return report("rooms");
+    return report("capacities");
 }
