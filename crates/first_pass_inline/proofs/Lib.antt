@@ -6,6 +6,7 @@ pub mod Levels
 pub mod Pieces
 pub mod Plain
 pub mod Reach
+pub mod Readable
 pub mod Steps
 pub mod Unique
 pub mod Views

@@ -4,4 +4,5 @@ pub mod Labels
 pub mod Look
 pub mod Marks
 pub mod Open
+pub mod Readable
 pub mod Sequences

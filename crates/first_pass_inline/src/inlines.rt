@@ -119,8 +119,8 @@ fn marks_with(
     marks_of(alloc, &chain)
 }
 
-// Whether a block has a chain of tokens.
-fn has_chain(body: ItemBody) -> bool
+/// Returns whether a block has a chain of tokens.
+pub fn has_chain(body: ItemBody) -> bool
     ensures { result ≡ has_chain body }
 {
     matches!(
@@ -133,8 +133,8 @@ fn has_chain(body: ItemBody) -> bool
     )
 }
 
-// The nodes at the start of these that are deeper than a block: those below it.
-fn tokens_below(depth: usize, nodes: &[(usize, Item)]) -> &[(usize, Item)]
+/// Returns the nodes at the start of these that are deeper than a block: those below it.
+pub fn tokens_below(depth: usize, nodes: &[(usize, Item)]) -> &[(usize, Item)]
     ensures { result.now ≡ take (prefix_len (λ n. nat_lt depth n.0) nodes.now) nodes.now }
 {
     let count = count_below(depth, nodes);

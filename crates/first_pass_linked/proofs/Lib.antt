@@ -1,0 +1,5 @@
+pub mod BlockLines
+pub mod Entries
+pub mod MarkLines
+pub mod Reports
+pub mod Spelling
