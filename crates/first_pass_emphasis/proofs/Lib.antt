@@ -1,0 +1,11 @@
+pub mod Bottoms
+pub mod Lists
+pub mod Marks
+pub mod Normal
+pub mod Openers
+pub mod Outside
+pub mod Pairs
+pub mod Runs
+pub mod Steps
+pub mod Tokens
+pub mod Walks

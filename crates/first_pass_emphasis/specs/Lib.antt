@@ -1,0 +1,10 @@
+pub mod Bottoms
+pub mod Levels
+pub mod Parts
+pub mod Pieces
+pub mod Quotes
+pub mod Redex
+pub mod Runs
+pub mod Stacks
+pub mod Tokens
+pub mod Walks
