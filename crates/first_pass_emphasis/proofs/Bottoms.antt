@@ -26,7 +26,8 @@ opens_less o left less c more l h = grind (arith, nat_tests, common_steps, cases
 threes_same : (n a b : ℕ) → a % 3 ≡ b % 3 → (n + a) % 3 ≡ (n + b) % 3
 threes_same n a b h = omega (arith, h)
 
-pub class_same : (a b : Run) → a.byte ≡ b.byte → a.opens ≡ b.opens → a.closes ≡ b.closes → (a.byte ≡ 126 → a.size ≡ b.size) → a.size % 3 ≡ b.size % 3 → IsSameClass a b
+pub class_same : (a b : Run) → a.byte ≡ b.byte → a.opens ≡ b.opens → a.closes ≡ b.closes → (a.byte ≡ 126 → a.size ≡ b.size)
+    → a.size % 3 ≡ b.size % 3 → IsSameClass a b
 unfolding fits
 class_same a b e p q s m o left more = grind (arith, nat_tests, common_steps, cases_Bool, threes_same o.size a.size b.size m)
 

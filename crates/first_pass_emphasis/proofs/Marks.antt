@@ -58,7 +58,8 @@ pub counted_next : (n i v : ℕ) (ms : List Mark) (d : Mark) → i < n → i < l
     → counted (n - i) (drop i ms) ≡ suc (counted (n - (i + 1)) (drop (i + 1) ms))
 counted_next n i v ms d below less is same =
     let e : n - i ≡ suc (n - (i + 1)) = omega arith in
-    let test : (count_of (get_or ms i d).kind == suc (n - (i + 1))) ≡ true = same_test (count_of (get_or ms i d).kind) (suc (n - (i + 1))) (sym is ∙ same ∙ e) in
+    let test : (count_of (get_or ms i d).kind == suc (n - (i + 1))) ≡ true =
+    same_test (count_of (get_or ms i d).kind) (suc (n - (i + 1))) (sym is ∙ same ∙ e) in
     ap (counted (n - i)) (drop_more ms i d less) ∙ ap (λ (k : ℕ). counted k (get_or ms i d ∷ drop (i + 1) ms)) e
     ∙ ap (λ (b : Bool). if b then suc (counted (n - (i + 1)) (drop (i + 1) ms)) else 0) test
 

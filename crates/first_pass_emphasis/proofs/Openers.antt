@@ -50,7 +50,8 @@ opened_plain p ms c more j e h = record {
   roles_are = rw h.roles_are (simp append_assoc);
 }
 
-opened_formatted : (p : Pieces) (f : Format) (w : ℕ) (x : Pieces) (c : Run) (more j : ℕ) (e : Entry) → IsOpened p c more j e → IsOpened (Formatted p f w x) c more j e
+opened_formatted : (p : Pieces) (f : Format) (w : ℕ) (x : Pieces) (c : Run) (more j : ℕ) (e : Entry) → IsOpened p c more j e
+    → IsOpened (Formatted p f w x) c more j e
 opened_formatted p f w x c more j e h = record {
   o = then_formatted f w x h.o;
   there = h.there;

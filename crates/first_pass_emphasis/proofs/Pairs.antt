@@ -47,7 +47,8 @@ module _ (goal : List Role) (double single : Bool) (q : PlacedQuote) (qs : List 
   next_quote done [] m e l = absurd (cc)
   next_quote done (Delimiters r ∷ ts) m e l =
       next_quote (done ++ replicate r.size Text) ts (m ∙ sym (append_assoc done (replicate r.size Text) (raw ts)))
-      (e ∙ ap (λ (n : ℕ). placed_quotes n ts) (sym (length-append done (replicate r.size Text) ∙ ap (λ (n : ℕ). length done + n) (length-replicate r.size Text))))
+      (e ∙ ap (λ (n : ℕ). placed_quotes n ts) (sym (length-append done (replicate r.size Text)
+      ∙ ap (λ (n : ℕ). length done + n) (length-replicate r.size Text))))
       (append_assoc done (replicate r.size Text) (raw (quoted double single ts)) ∙ l)
   next_quote done (Quotation u ∷ ts) m e l =
       let head : q ≡ record { quote = u; at = length done } = cc in

@@ -42,7 +42,8 @@ module _ (q p : Pieces) (rest : List Role) (c : Run) (more at : ℕ) where
     stands = st;
     enough = omega arith;
     result =
-        sym (ap (λ (x : Option Opener). option_map_or (λ (o : Opener). closed steps (paired o (width o.run o.left more)) c (more - width o.run o.left more)) x (Runs q c more)) h) ∙ e;
+        sym (ap (λ (x : Option Opener).
+        option_map_or (λ (o : Opener). closed steps (paired o (width o.run o.left more)) c (more - width o.run o.left more)) x (Runs q c more)) h) ∙ e;
     place = omega arith;
   }
 
@@ -94,7 +95,8 @@ module _ (p q : Pieces) (rest : List Role) (c : Run) (more at steps : ℕ) (t : 
 pub stopped : (p : Pieces) (rest : List Role) (c : Run) (more at w : ℕ) (s t : Pass) → IsClosing p rest c more at s
     → ((q : Pieces) (r : List Role) → IsAt q more r at s → IsTried q r at c more w t) → w ≡ 0 → IsClosed p rest c more t
 stopped p rest c more at w s t h tried none =
-    after_none p h.q rest c more at h.steps t (opener h.q c more) refl (subst (λ (v : ℕ). IsTried h.q rest at c more v t) none (tried h.q rest h.stands)) h.result h.place
+    after_none p h.q rest c more at h.steps t (opener h.q c more) refl
+    (subst (λ (v : ℕ). IsTried h.q rest at c more v t) none (tried h.q rest h.stands)) h.result h.place
 
 pub used_up : (p : Pieces) (rest : List Role) (c : Run) (more at : ℕ) (s : Pass) → IsClosing p rest c more at s → more ≡ 0 → IsClosed p rest c 0 s
 used_up p rest c more at s h none =

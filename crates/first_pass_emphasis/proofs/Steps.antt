@@ -81,7 +81,8 @@ module _ (p : Pieces) (rest : List Role) (s t : Pass) (c : Run) (more j w at fro
       let cut : AreBottoms t.stack.items t.bottoms.items =
       subst (λ (x : List Entry). AreBottoms x t.bottoms.items) (sym es)
       (subst (AreBottoms (take j s.stack.items ++ d ∷ [])) (sym bs)
-      (cut_bottoms s.stack.items j e d s.bottoms.items st.stands.bottoms (ap (λ (x : List Entry). slice_get x j) st.stands.stack ∙ h.there) refl (omega arith))) in
+      (cut_bottoms s.stack.items j e d s.bottoms.items st.stands.bottoms
+      (ap (λ (x : List Entry). slice_get x j) st.stands.stack ∙ h.there) refl (omega arith))) in
       subst (λ (x : Option Opener). MatchOption x ((w ≡ 0) × IsAt p more rest at t)
       (λ o. (w ≡ width o.run o.left more) × (0 < w) × (w ≤ more) × IsAt (paired o w) (more - w) rest (at + w) t)) (sym h.found) (
         w_is ∙ rw (h.run, h.left) refl,

@@ -23,7 +23,8 @@ next goal r rs s p (Delimiters c ∷ ts) st e l =
     let tail : rs ≡ placed_runs (length (roles p) + c.size) ts = cc in
     subst (λ (x : PlacedRun). IsNext goal x rs s) (sym head) (record { p = p; ts = ts; at = record { stands = st; place = refl }; runs = tail; leads = l })
 next goal r rs s p (Quotation q ∷ ts) st e l =
-    next goal r rs s (Plain p (Text ∷ [])) ts (record { roles = st.roles ∙ sym (append_assoc (roles p) (Text ∷ []) (raw ts)); stack = st.stack; bottoms = st.bottoms })
+    next goal r rs s (Plain p (Text ∷ [])) ts
+    (record { roles = st.roles ∙ sym (append_assoc (roles p) (Text ∷ []) (raw ts)); stack = st.stack; bottoms = st.bottoms })
     (e ∙ ap (λ (n : ℕ). placed_runs n ts) (sym (length-append (roles p) (Text ∷ [])))) l
 next goal r rs s p (Other ms ∷ ts) st e l =
     next goal r rs s (Plain p ms) ts (record { roles = st.roles ∙ sym (append_assoc (roles p) ms (raw ts)); stack = st.stack; bottoms = st.bottoms })
@@ -47,7 +48,8 @@ last : (goal : Pieces) (s : Pass) (p : Pieces) (ts : List Part) → Stands p (ra
 last goal s p [] st e l = st.roles ∙ append-nil (roles p) ∙ ap roles l
 last goal s p (Delimiters c ∷ ts) st e l = absurd (cc)
 last goal s p (Quotation q ∷ ts) st e l =
-    last goal s (Plain p (Text ∷ [])) ts (record { roles = st.roles ∙ sym (append_assoc (roles p) (Text ∷ []) (raw ts)); stack = st.stack; bottoms = st.bottoms })
+    last goal s (Plain p (Text ∷ [])) ts
+    (record { roles = st.roles ∙ sym (append_assoc (roles p) (Text ∷ []) (raw ts)); stack = st.stack; bottoms = st.bottoms })
     (e ∙ ap (λ (n : ℕ). placed_runs n ts) (sym (length-append (roles p) (Text ∷ [])))) l
 last goal s p (Other ms ∷ ts) st e l =
     last goal s (Plain p ms) ts (record { roles = st.roles ∙ sym (append_assoc (roles p) ms (raw ts)); stack = st.stack; bottoms = st.bottoms })

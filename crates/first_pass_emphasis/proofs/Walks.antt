@@ -305,7 +305,8 @@ module _ (content : List ℕ) (options : Options) (goal : List Role) (m : Mark) 
 
 -- the state at the begin and at the end
 
-pub walk_begins : (content : List ℕ) (options : Options) (ms : List Mark) (n : Nested) (s : Walk) → IsNestingOf ms n → s.pass.roles.items ≡ [] → s.runs.items ≡ []
+pub walk_begins : (content : List ℕ) (options : Options) (ms : List Mark) (n : Nested) (s : Walk) → IsNestingOf ms n → s.pass.roles.items ≡ []
+    → s.runs.items ≡ []
     → s.quotes.items ≡ [] → s.outer.items ≡ [] → s.level ≡ record { runs = 0; quotes = 0; from = 0 }
     → IsWalkBefore content options (chain_roles content options n) ms s
 walk_begins content options ms n s h rs us qs os ls = record {

@@ -5,8 +5,8 @@ ghost use Rattle.first_pass_emphasis.specs.Pieces.{Pieces, reduced};
 ghost use Rattle.first_pass_emphasis.specs.Redex.{IsNormalForm, read};
 ghost use Rattle.std.specs.Prelude.{◌≡◌, List};
 
-/// What the parts of a level are reduced to is what the rewriting step makes of them: the first closer that has an opener,
-/// with the last such opener, until there is none.
+/// What the parts of a level are reduced to is what the rewriting step makes of them: the first closer that has an
+/// opener, with the last such opener, until there is none.
 pub fn normal_form()
     ensures { (ts : List Part) → IsNormalForm (read ts) (reduced ts) }
 {}

@@ -27,8 +27,8 @@ pub(crate) struct Level {
     from: usize,
 }
 
-// The state of the walk over the marks: the roles of those that were read; the runs and the quotation marks of all levels
-// that are being read; the levels around the innermost one; and that one.
+// The state of the walk over the marks: the roles of those that were read; the runs and the quotation marks of all
+// levels that are being read; the levels around the innermost one; and that one.
 #[derive(Drop)]
 pub(crate) struct Walk {
     pass: Pass,
@@ -47,7 +47,8 @@ pub fn roles_of(
     marks: &[Mark],
 ) -> Result<Vec<Role>, AllocError>
     requires nested { (n : Nested) × IsNestingOf marks.now n }
-    ensures { IfOk result (λ roles. (n : Nested) → IsNestingOf marks.now n → roles.items ≡ chain_roles content.now options n) }
+    ensures { IfOk result (λ roles. (n : Nested) → IsNestingOf marks.now n
+        → roles.items ≡ chain_roles content.now options n) }
 {
     let mut walk = Walk {
         pass: Pass {
@@ -82,7 +83,8 @@ fn read(
     following: &[Mark],
 ) -> Result<usize, AllocError>
     requires before { (goal : List Role) × IsWalkBefore content.now options goal (mark ∷ following.now) walk.old }
-    ensures before { IfOk result (λ read. (goal : List Role) → IsWalkBefore content.now options goal (mark ∷ following.now) walk.old
+    ensures before { IfOk result (λ read. (goal : List Role)
+        → IsWalkBefore content.now options goal (mark ∷ following.now) walk.old
         → IsWalkBefore content.now options goal (drop read following.now) walk.new) }
     ensures within { IfOk result (λ read. read ≤ length following.now) }
 {
@@ -130,8 +132,8 @@ fn push_text(roles: &mut Vec<Role>, count: usize) -> Result<(), AllocError>
 
 // Begins a level after a bracket.
 fn open(walk: &mut Walk, from: usize) -> Result<(), AllocError>
-    ensures { IfOk result (λ _. (o : Around) (outer : ℕ) (us : List Part) (closes : Mark) (r : Nested) → Holds o outer us walk.old
-        → Holds (WithinLevel o us closes r outer) from [] walk.new) }
+    ensures { IfOk result (λ _. (o : Around) (outer : ℕ) (us : List Part) (closes : Mark) (r : Nested)
+        → Holds o outer us walk.old → Holds (WithinLevel o us closes r outer) from [] walk.new) }
 {
     walk.outer.push(walk.level)?;
     walk.level = Level {
@@ -158,7 +160,8 @@ fn close(walk: &mut Walk) -> Result<(), AllocError>
 
 // Takes the innermost one off the levels around one, and returns it.
 fn leave(outer: &mut Vec<Level>, level: Level) -> Level
-    ensures { (around : List Level) (last : Level) → outer.old.items ≡ around ++ last ∷ [] → (outer.new.items ≡ around) × (result ≡ last) }
+    ensures { (around : List Level) (last : Level) → outer.old.items ≡ around ++ last ∷ []
+        → (outer.new.items ≡ around) × (result ≡ last) }
 {
     match outer.pop() {
         Some(around) => around,
@@ -169,7 +172,8 @@ fn leave(outer: &mut Vec<Level>, level: Level) -> Level
 // Writes the roles of the innermost level: those of quotation marks, and those of delimiters.
 fn settle(walk: &mut Walk) -> Result<(), AllocError>
     requires { (o : Around) × (from : ℕ) × (ts : List Part) × Holds o from ts walk.old }
-    ensures { IfOk result (λ _. (o : Around) (from : ℕ) (ts : List Part) → Holds o from ts walk.old → IsSettled o from ts walk.new) }
+    ensures { IfOk result (λ _. (o : Around) (from : ℕ) (ts : List Part) → Holds o from ts walk.old
+        → IsSettled o from ts walk.new) }
 {
     pair_quotes(&mut walk.pass.roles, &walk.quotes[walk.level.quotes..]);
     reduce(&mut walk.pass, &walk.runs[walk.level.runs..])?;

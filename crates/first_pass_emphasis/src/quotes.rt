@@ -41,7 +41,8 @@ pub(crate) fn pair_quotes(roles: &mut Vec<Role>, quotes: &[PlacedQuote])
     }
 }
 
-// The role of a quotation mark, given whether a pair of double ones is open, and whether it begins a pair of single ones.
+// The role of a quotation mark, given whether a pair of double ones is open, and whether it begins a pair of single
+// ones.
 fn quote_role(double: bool, begins: bool, quote: Quote) -> Role
     ensures { result ≡ role_by double begins quote }
 {
@@ -77,7 +78,8 @@ fn single_after(single: bool, begins: bool, quote: Quote) -> bool
     if single { !quote.closes } else { begins }
 }
 
-// Whether a quotation mark begins a pair of single ones, given whether a pair is open, and the later ones of its level.
+// Whether a quotation mark begins a pair of single ones, given whether a pair is open, and the later ones of its
+// level.
 fn begins_pair(single: bool, quote: Quote, later: &[PlacedQuote]) -> bool
     ensures { result ≡ begins_by single quote (next_by later.now) }
 {

@@ -27,8 +27,8 @@ pub(crate) struct Bottom {
     low: usize,
 }
 
-// The roles of what was read; and of the level that is reduced the runs that are in no emphasis, and bottoms, at most one
-// for each class.
+// The roles of what was read; and of the level that is reduced the runs that are in no formatted text, and bottoms, at
+// most one for each class.
 #[derive(Drop)]
 pub(crate) struct Pass {
     pub(crate) roles: Vec<Role>,
@@ -39,8 +39,8 @@ pub(crate) struct Pass {
 /// Reduces the level at the end of these roles, given its runs. Fails only if an allocation fails.
 pub(crate) fn reduce(pass: &mut Pass, runs: &[PlacedRun]) -> Result<(), AllocError>
     requires level { (outside : List Role) × (ts : List Part) × IsLevel outside ts pass.old.roles.items runs.now }
-    ensures { IfOk result (λ _. (outside : List Role) (ts : List Part) → IsLevel outside ts pass.old.roles.items runs.now
-        → pass.new.roles.items ≡ outside ++ roles_in (reduced ts)) }
+    ensures { IfOk result (λ _. (outside : List Role) (ts : List Part)
+        → IsLevel outside ts pass.old.roles.items runs.now → pass.new.roles.items ≡ outside ++ roles_in (reduced ts)) }
 {
     pass.stack.clear();
     pass.bottoms.clear();
@@ -54,7 +54,8 @@ pub(crate) fn reduce(pass: &mut Pass, runs: &[PlacedRun]) -> Result<(), AllocErr
 fn read(pass: &mut Pass, runs: &[PlacedRun], i: usize) -> Result<(), AllocError>
     requires before { (goal : Pieces) × IsBefore goal (drop i runs.now) pass.old }
     requires within { i < length runs.now }
-    ensures { IfOk result (λ _. (goal : Pieces) → IsBefore goal (drop i runs.now) pass.old → IsBefore goal (drop (i + 1) runs.now) pass.new) }
+    ensures { IfOk result (λ _. (goal : Pieces) → IsBefore goal (drop i runs.now) pass.old
+        → IsBefore goal (drop (i + 1) runs.now) pass.new) }
 {
     let placed = runs[i];
     read_run(pass, placed.run, placed.at)?;
@@ -64,7 +65,8 @@ fn read(pass: &mut Pass, runs: &[PlacedRun], i: usize) -> Result<(), AllocError>
 // Reads a run: it closes what it can, and what is left of it goes on the stack.
 fn read_run(pass: &mut Pass, run: Run, at: usize) -> Result<(), AllocError>
     requires ready { IsReady run.size at pass.old }
-    ensures { IfOk result (λ _. (p : Pieces) (rest : List Role) → IsAt p run.size rest at pass.old → IsRead p rest run pass.new) }
+    ensures { IfOk result (λ _. (p : Pieces) (rest : List Role) → IsAt p run.size rest at pass.old
+        → IsRead p rest run pass.new) }
 {
     let left = close_all(pass, run, at)?;
     let end = at + run.size;
@@ -75,7 +77,8 @@ fn read_run(pass: &mut Pass, run: Run, at: usize) -> Result<(), AllocError>
 // Closes what it can. Returns how many delimiters of the run are left.
 fn close_all(pass: &mut Pass, run: Run, at: usize) -> Result<usize, AllocError>
     requires ready { IsReady run.size at pass.old }
-    ensures { IfOk result (λ more. (p : Pieces) (rest : List Role) → IsAt p run.size rest at pass.old → IsClosed p rest run more pass.new) }
+    ensures { IfOk result (λ more. (p : Pieces) (rest : List Role) → IsAt p run.size rest at pass.old
+        → IsClosed p rest run more pass.new) }
 {
     let mut more = run.size;
     let mut at = at;
@@ -94,7 +97,8 @@ fn close_all(pass: &mut Pass, run: Run, at: usize) -> Result<usize, AllocError>
 fn close(pass: &mut Pass, run: Run, more: usize, at: usize) -> Result<usize, AllocError>
     requires ready { IsReady more at pass.old }
     requires some { 0 < more }
-    ensures { IfOk result (λ taken. (p : Pieces) (rest : List Role) → IsAt p more rest at pass.old → IsTried p rest at run more taken pass.new) }
+    ensures { IfOk result (λ taken. (p : Pieces) (rest : List Role) → IsAt p more rest at pass.old
+        → IsTried p rest at run more taken pass.new) }
 {
     let low = bottom_of(&pass.bottoms, run);
     match nearest(&pass.stack, low, run, more) {
@@ -152,7 +156,8 @@ fn bottom_of(bottoms: &[Bottom], run: Run) -> usize
 
 // Records the bottom of a closer, in place of that of its class.
 fn record_bottom(bottoms: &mut Vec<Bottom>, run: Run, low: usize) -> Result<(), AllocError>
-    ensures { IfOk result (λ _. (es : List Entry) → AreBottoms es bottoms.old.items → IsBottom es run low → AreBottoms es bottoms.new.items) }
+    ensures { IfOk result (λ _. (es : List Entry) → AreBottoms es bottoms.old.items → IsBottom es run low
+        → AreBottoms es bottoms.new.items) }
 {
     for i in 0..bottoms.len() {
         if is_same_class(bottoms[i].run, run) {
@@ -180,7 +185,8 @@ fn lower(bottoms: &mut Vec<Bottom>, height: usize)
 // Writes a role several times from an index on.
 fn write(roles: &mut Vec<Role>, at: usize, count: usize, role: Role)
     requires { at + count ≤ length roles.old.items }
-    ensures { roles.new.items ≡ take at roles.old.items ++ (replicate count role ++ drop (at + count) roles.old.items) }
+    ensures { roles.new.items ≡ take at roles.old.items
+        ++ (replicate count role ++ drop (at + count) roles.old.items) }
 {
     for i in 0..count {
         roles[at + i] = role;

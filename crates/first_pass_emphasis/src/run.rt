@@ -28,7 +28,8 @@ pub(crate) struct PlacedRun {
     pub(crate) at: usize,
 }
 
-/// Returns whether a run, of which `left` delimiters are left, can be the opener of `closer`, of which `more` are left.
+/// Returns whether a run, of which `left` delimiters are left, can be the opener of `closer`, of which `more` are
+/// left.
 #[tactic(auto, unfolding(crate::specs::Runs::fits))]
 pub(crate) fn fits(opener: Run, left: usize, closer: Run, more: usize) -> bool
     ensures { result ≡ run_fits opener left closer more }

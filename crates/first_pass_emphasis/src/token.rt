@@ -33,8 +33,8 @@ pub(crate) enum Side {
     Within,
 }
 
-/// Returns where the mark of a bracket is: what is in a link or an image is a level, and so is what is shown in the name
-/// of a wikilink.
+/// Returns where the mark of a bracket is: what is in a link or an image is a level, and so is what is shown in the
+/// name of a wikilink.
 pub(crate) fn side_of(kind: MarkKind) -> Side
     ensures { result ≡ side_of kind }
 {

@@ -5,7 +5,8 @@ use Rattle.first_pass_emphasis.proofs.Walks.{walk_begins, walk_ends}
 use Rattle.first_pass_emphasis.proofs.levels.roles_of.Goals as goal
 
 pub loop-mark-init : goal.loop-mark-init
-loop-mark-init c = λ n h. walk_begins c.args.content.now c.args.options c.args.marks.now n _ h c.new.ensures.items c.new-4.ensures.items c.new-5.ensures.items c.new-6.ensures.items refl
+loop-mark-init c = λ n h.
+    walk_begins c.args.content.now c.args.options c.args.marks.now n _ h c.new.ensures.items c.new-4.ensures.items c.new-5.ensures.items c.new-6.ensures.items refl
 
 pub returns : goal.returns
 returns c = λ n h.

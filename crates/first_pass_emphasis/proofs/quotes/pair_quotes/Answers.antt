@@ -10,7 +10,8 @@ index_mut-requires c =
     let outside = c.requires.level.0 in
     let ts = c.requires.level.1 in
     let all = outside ++ raw (quoted false false ts) in
-    let less : c.in-Some.placed.now.at < length c.loop-placed.roles.items = quote_within all c.loop-placed.double c.loop-placed.single c.in-Some.placed.now c.in-Some.later.now c.loop-placed.roles.items
+    let less : c.in-Some.placed.now.at < length c.loop-placed.roles.items =
+    quote_within all c.loop-placed.double c.loop-placed.single c.in-Some.placed.now c.in-Some.later.now c.loop-placed.roles.items
     (at_quote all c.loop-placed.double c.loop-placed.single c.in-Some.placed.now c.in-Some.later.now c.loop-placed.roles.items c.loop-placed.rest.now
     c.in-Some.ensures.cases.0 (c.loop-placed.invariant outside ts c.requires.level.2)) in
     search (rules, less)

@@ -28,7 +28,8 @@ write-requires-in-Some c =
     let r = (room c.requires.ready.0 c.requires.ready.1 c.args.pass.now c.args.run c.args.more c.in-Some.index _ c.args.at _ c.requires.ready.2
     (opens c.requires.ready.0 c.args.pass.now c.args.run c.args.more c.in-Some.index c.index-opener.result.now _ c.requires.ready.2.stands.stack
     c.deref-2.ensures.value c.in-Some.ensures c.index-opener.ensures) c.width-taken.ensures) in
-    let same : length c.write.new.roles.items ≡ length c.args.pass.now.roles.items = ap length c.write.ensures ∙ length_over c.args.pass.now.roles.items _ _ _ r.2 in
+    let same : length c.write.new.roles.items ≡ length c.args.pass.now.roles.items =
+    ap length c.write.ensures ∙ length_over c.args.pass.now.roles.items _ _ _ r.2 in
     omega arith
 
 pub nearest-requires : goal.nearest-requires
@@ -46,9 +47,14 @@ returns-in_ok-record_bottom-in-None c = λ p rest st.
 
 pub returns-in_ok-push-in-Some : goal.returns-in_ok-push-in-Some
 returns-in_ok-push-in-Some c = λ p rest st.
-    pair_stands p rest c.args.pass.now _ c.args.run c.args.more c.in-Some.index _ c.args.at _ c.index-opener.result.now c.format-made.result c.write.new.roles.items st
+    pair_stands p rest c.args.pass.now _ c.args.run c.args.more c.in-Some.index _ c.args.at _ c.index-opener.result.now c.format-made.result
+    c.write.new.roles.items st
     (opens p c.args.pass.now c.args.run c.args.more c.in-Some.index c.index-opener.result.now _ st.stands.stack c.deref-2.ensures.value c.in-Some.ensures
     c.index-opener.ensures)
     c.width-taken.ensures c.format-made.ensures refl c.write.ensures c.write-in-Some.ensures
-    (c.in_ok-push-in-Some.ensures.items ∙ ap (λ (x : List Entry). x ++ record { run = c.index-opener.result.now.run; left = c.index-opener.result.now.left - c.width-taken.result; «end» = c.index-opener.result.now.«end» - c.width-taken.result } ∷ []) c.truncate.ensures.items)
+    (c.in_ok-push-in-Some.ensures.items ∙ ap (λ (x : List Entry). x ++ record {
+      run = c.index-opener.result.now.run;
+      left = c.index-opener.result.now.left - c.width-taken.result;
+      «end» = c.index-opener.result.now.«end» - c.width-taken.result;
+    } ∷ []) c.truncate.ensures.items)
     c.lower.ensures

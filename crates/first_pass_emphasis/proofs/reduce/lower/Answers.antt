@@ -7,6 +7,8 @@ pub loop-i-preserved : goal.loop-i-preserved
 loop-i-preserved c =
     let less : c.loop-i.i < length c.args.bottoms.now.items = omega (arith, c.loop-i.invariant.all) in
     record {
-      items = rw (c.min.ensures) (lower_more (lowered c.args.height) c.args.bottoms.now.items c.loop-i.bottoms.items c.loop-i.i c.index-bottom.result.now less c.loop-i.invariant.items c.index-bottom.ensures);
+      items =
+          rw (c.min.ensures)
+          (lower_more (lowered c.args.height) c.args.bottoms.now.items c.loop-i.bottoms.items c.loop-i.i c.index-bottom.result.now less c.loop-i.invariant.items c.index-bottom.ensures);
       all = c.loop-i.invariant.all;
     }

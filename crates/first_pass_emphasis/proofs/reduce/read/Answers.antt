@@ -11,5 +11,6 @@ read_run-requires c =
 
 pub returns : goal.returns
 returns c = λ g b.
-    let n = is_next g _ (drop (c.args.i + 1) c.args.runs.now) (drop c.args.i c.args.runs.now) c.args.pass.now b (drop_more c.args.runs.now c.args.i _ c.requires.within) in
+    let n = is_next g _ (drop (c.args.i + 1) c.args.runs.now) (drop c.args.i c.args.runs.now) c.args.pass.now b
+    (drop_more c.args.runs.now c.args.i _ c.requires.within) in
     went_on g _ (drop (c.args.i + 1) c.args.runs.now) c.args.pass.now c.read_run.new.pass n (c.in_ok-read_run.ensures n.p _ n.at)

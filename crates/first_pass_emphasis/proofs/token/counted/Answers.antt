@@ -4,7 +4,8 @@ use Rattle.first_pass_emphasis.proofs.token.counted.Goals as goal
 
 pub loop-size-preserved : goal.loop-size-preserved
 loop-size-preserved c =
-    let next = counted_next c.args.count c.loop-size.size _ c.args.marks.now _ c.loop-size-test.true c.if-size-marks.true c.count_of.ensures c.if-count_of-count.true in
+    let next = counted_next c.args.count c.loop-size.size _ c.args.marks.now _ c.loop-size-test.true c.if-size-marks.true c.count_of.ensures
+    c.if-count_of-count.true in
     record {
       all = omega (arith, c.loop-size.invariant.all, next);
       below = omega (arith, c.loop-size-test.true);
@@ -13,7 +14,8 @@ loop-size-preserved c =
 
 pub returns-else-count_of-count-clause-value : goal.returns-else-count_of-count-clause-value
 returns-else-count_of-count-clause-value c =
-    let none = counted_stops c.args.count c.loop-size.size _ c.args.marks.now _ c.loop-size-test.true c.if-size-marks.true c.count_of.ensures c.if-count_of-count.false in
+    let none = counted_stops c.args.count c.loop-size.size _ c.args.marks.now _ c.loop-size-test.true c.if-size-marks.true c.count_of.ensures
+    c.if-count_of-count.false in
     omega (arith, c.loop-size.invariant.all, none)
 
 pub returns-else-size-marks-clause-value : goal.returns-else-size-marks-clause-value
