@@ -20,7 +20,7 @@ use Rattle.first_pass_inline.proofs.Readable.{marks_readable}
 use Rattle.first_pass_inline.proofs.Steps.{at_end}
 use Rattle.first_pass_inline.proofs.Unique.{only_marks}
 use Rattle.first_pass_reports.specs.ReferenceLines.{node_lines}
-use Rattle.first_pass_linked.specs.Lines.{footnote_line, mark_lines}
+use Rattle.first_pass_linked.specs.Forms.{LineForms, footnote_line, mark_lines}
 use Rattle.first_pass_linked.specs.LinkLines.{AddsFirst, AreNodeLines, Source, block_lines, links_of}
 
 -- the chains of the nodes from an index on
@@ -53,16 +53,17 @@ marks_ready text tokens labels made listed ms utf8 chain is same are =
     (subst (λ c. AreReadable (bytes_of c) ms) (sym is)
     (marks_readable (chain_of text tokens labels) ms (chain_utf8 text tokens (content text tokens) utf8 chain refl) are))
 
--- the lines of the listed marks, from the content that was made, are added
-pub same_added : (mid new : List ℕ) (made given : List ContentByte) (links entries : List LinkEntry) (listed ms : List Mark)
-    → new ≡ mid ++ mark_lines made links 0 listed → made ≡ given → links ≡ entries → listed ≡ ms → new ≡ mid ++ mark_lines given entries 0 ms
-same_added mid new made given links entries listed ms e f g h =
-    e ∙ ap (λ c. mid ++ mark_lines c links 0 listed) f ∙ ap (λ l. mid ++ mark_lines given l 0 listed) g ∙ ap (λ l. mid ++ mark_lines given entries 0 l) h
+module _ (forms : LineForms) where
+  -- the lines of the listed marks, from the content that was made, are added
+  pub same_added : (mid new : List ℕ) (made given : List ContentByte) (links entries : List LinkEntry) (listed ms : List Mark)
+      → new ≡ mid ++ mark_lines forms made links 0 listed → made ≡ given → links ≡ entries → listed ≡ ms → new ≡ mid ++ mark_lines forms given entries 0 ms
+  same_added mid new made given links entries listed ms e f g h =
+      e ∙ ap (λ c. mid ++ mark_lines forms c links 0 listed) f ∙ ap (λ l. mid ++ mark_lines forms given l 0 listed) g ∙ ap (λ l. mid ++ mark_lines forms given entries 0 l) h
 
 -- no marks have no lines
-no_lines : (c : List ContentByte) (links : List LinkEntry) → mark_lines c links 0 [] ≡ []
+no_lines : (forms : LineForms) (c : List ContentByte) (links : List LinkEntry) → mark_lines forms c links 0 [] ≡ []
 unfolding mark_lines
-no_lines c links = refl
+no_lines forms c links = refl
 
 module _ (s : Source) where
   -- the lines of the first of some nodes
@@ -104,7 +105,7 @@ module _ (s : Source) where
 
   module _ (n : ℕ × Item) (nodes all : List (ℕ × Item)) (there : all ≡ n ∷ nodes) where
     -- a node without a chain
-    pub without_chain : (old new : List ℕ) → has_chain n.1.body ≡ false → new ≡ old ++ footnote_line s.names n.1 → AddsFirst s all old new
+    pub without_chain : (old new : List ℕ) → has_chain n.1.body ≡ false → new ≡ old ++ footnote_line s.forms s.names n.1 → AddsFirst s all old new
     without_chain old new none e = subst (λ ns. AddsFirst s ns old new) (sym there) adds
       where
         empty : chain_after n nodes ≡ []
@@ -114,20 +115,20 @@ module _ (s : Source) where
         adds ms are =
             let nothing : ms ≡ [] = no_marks s.text s.labels ms (subst (λ tokens. AreMarks (chain_of s.text tokens s.labels) ms) empty are) in
             let c = content s.text (chain_after n nodes) in
-            let lines : mark_lines c (links_of s.labels) 0 ms ≡ [] = ap (mark_lines c (links_of s.labels) 0) nothing ∙ no_lines c (links_of s.labels) in
-            e ∙ ap (λ l. old ++ l) (sym (append-nil (footnote_line s.names n.1)) ∙ ap (λ l. footnote_line s.names n.1 ++ l) (sym lines))
+            let lines : mark_lines s.forms c (links_of s.labels) 0 ms ≡ [] = ap (mark_lines s.forms c (links_of s.labels) 0) nothing ∙ no_lines s.forms c (links_of s.labels) in
+            e ∙ ap (λ l. old ++ l) (sym (append-nil (footnote_line s.forms s.names n.1)) ∙ ap (λ l. footnote_line s.forms s.names n.1 ++ l) (sym lines))
 
     -- a node with these tokens and marks
     pub with_chain : (tokens : List (ℕ × Item)) (found : List Mark) (old mid new : List ℕ) → tokens ≡ chain_after n nodes
-        → AreMarks (chain_of s.text tokens s.labels) found → mid ≡ old ++ footnote_line s.names n.1
-        → new ≡ mid ++ mark_lines (content s.text tokens) (links_of s.labels) 0 found → AddsFirst s all old new
+        → AreMarks (chain_of s.text tokens s.labels) found → mid ≡ old ++ footnote_line s.forms s.names n.1
+        → new ≡ mid ++ mark_lines s.forms (content s.text tokens) (links_of s.labels) 0 found → AddsFirst s all old new
     with_chain tokens found old mid new chain are e f = subst (λ ns. AddsFirst s ns old new) (sym there) adds
       where
         adds : AddsFirst s (n ∷ nodes) old new
         adds ms h =
             let c = chain_of s.text (chain_after n nodes) s.labels in
             let same : found ≡ ms = only_marks c found ms (subst (λ ts. AreMarks (chain_of s.text ts s.labels) found) chain are) h in
-            f ∙ ap (λ l. l ++ mark_lines (content s.text tokens) (links_of s.labels) 0 found) e
-            ∙ append_assoc old (footnote_line s.names n.1) (mark_lines (content s.text tokens) (links_of s.labels) 0 found)
-            ∙ ap (λ ts. old ++ (footnote_line s.names n.1 ++ mark_lines (content s.text ts) (links_of s.labels) 0 found)) chain
-            ∙ ap (λ l. old ++ (footnote_line s.names n.1 ++ mark_lines (content s.text (chain_after n nodes)) (links_of s.labels) 0 l)) same
+            f ∙ ap (λ l. l ++ mark_lines s.forms (content s.text tokens) (links_of s.labels) 0 found) e
+            ∙ append_assoc old (footnote_line s.forms s.names n.1) (mark_lines s.forms (content s.text tokens) (links_of s.labels) 0 found)
+            ∙ ap (λ ts. old ++ (footnote_line s.forms s.names n.1 ++ mark_lines s.forms (content s.text ts) (links_of s.labels) 0 found)) chain
+            ∙ ap (λ l. old ++ (footnote_line s.forms s.names n.1 ++ mark_lines s.forms (content s.text (chain_after n nodes)) (links_of s.labels) 0 l)) same

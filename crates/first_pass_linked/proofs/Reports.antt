@@ -11,7 +11,7 @@ use Rattle.first_pass_host.specs.Runs.{LeavesReport, WritesOutput}
 use Rattle.first_pass_host.specs.Streams.{WritesText, stream_between}
 use Rattle.first_pass_names.specs.TableEntries.{entries, names_of, tables_of}
 use Rattle.first_pass_names.specs.declared.items.Allocations.{Allocations}
-use Rattle.first_pass_reports.specs.ReferenceLines.{definition_line}
+use Rattle.first_pass_linked.specs.Forms.{LineForms}
 use Rattle.first_pass_linked.specs.LinkLines.{AreLinkLines, AreNodeLines, source_in}
 use Rattle.first_pass_linked.proofs.BlockLines.{lines_found}
 
@@ -24,20 +24,20 @@ nothing_written text known result is = subst (WritesText text (stream_between kn
   fault = inr refl;
 }
 
-module _ (text : List ℕ) (options : Options) (allocs : Allocations) (nodes : List (ℕ × Item)) where
+module _ (forms : LineForms) (text : List ℕ) (options : Options) (allocs : Allocations) (nodes : List (ℕ × Item)) where
   -- the lines of the nodes
   abbrev pub node_lines_of : List ℕ
-  node_lines_of = (lines_found (source_in text options allocs) nodes).0
+  node_lines_of = (lines_found (source_in forms text options allocs) nodes).0
 
-  pub lines_are_there : AreNodeLines (source_in text options allocs) nodes node_lines_of
-  lines_are_there = (lines_found (source_in text options allocs) nodes).1
+  pub lines_are_there : AreNodeLines (source_in forms text options allocs) nodes node_lines_of
+  lines_are_there = (lines_found (source_in forms text options allocs) nodes).1
 
   -- the whole output
   abbrev pub output_of : List ℕ
-  output_of = flat_map definition_line (tables_of allocs).links ++ node_lines_of
+  output_of = flat_map forms.definition (tables_of allocs).links ++ node_lines_of
 
   module _ (derived : Derives (document text options (names_of allocs)) nodes (tables_of allocs)) where
-    says : AreLinkLines options text output_of
+    says : AreLinkLines forms options text output_of
     says = record {
       names = names_of allocs;
       nodes = nodes;
@@ -49,12 +49,12 @@ module _ (text : List ℕ) (options : Options) (allocs : Allocations) (nodes : L
     }
 
     pub whole_written : (old new : Option (List ℕ)) (result : Result (Unit {0}) RunFault) → WritesText output_of (stream_between old new) result
-        → OnOk result (WritesOutput AreLinkLines options text (stream_between old new))
+        → OnOk result (WritesOutput (AreLinkLines forms) options text (stream_between old new))
     whole_written old new (Ok x) w = record { whole = output_of; says = says; appended = w.ok }
     whole_written old new (Err fault) w = tt
 
     pub front_written : (old new : Option (List ℕ)) (result : Result (Unit {0}) RunFault) → WritesText output_of (stream_between old new) result
-        → IfErr result (λ fault. LeavesReport AreLinkLines fault options text (stream_between old new))
+        → IfErr result (λ fault. LeavesReport (AreLinkLines forms) fault options text (stream_between old new))
     front_written old new (Ok x) w = tt
     front_written old new (Err OutOfMemory) w = inr record { whole = output_of; says = says; appended = w.front }
     front_written old new (Err WriteFailed) w = record { whole = output_of; says = says; appended = w.front }

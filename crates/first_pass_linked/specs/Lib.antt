@@ -1,3 +1,4 @@
+pub mod Forms
 pub mod Lines
 pub mod LinkLines
 pub mod Targets

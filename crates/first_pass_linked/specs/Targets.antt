@@ -1,5 +1,5 @@
 -- The parts of a content, and what a link or an image leads to, as lines have them.
-use Rattle.std.specs.Prelude.{ℕ, List, [], ◌++◌, codes, decimal, false, slice_get, Option, None}
+use Rattle.std.specs.Prelude.{ℕ, ◌+◌, ◌-◌, List, [], ◌++◌, codes, decimal, false, slice_get, Option, None}
 use Rattle.std.specs.List.{slice_range}
 use Rattle.std.specs.Option.{option_and_then, option_map, option_map_or}
 use Rattle.std.specs.declared.ops.Range.{Range}
@@ -7,10 +7,13 @@ use Rattle.first_pass_links.specs.Escapes.{unescaped}
 use Rattle.first_pass_grammar.specs.LinkTables.{LinkEntry}
 use Rattle.first_pass_reports.specs.Printed.{quoted_title, visible}
 use Rattle.first_pass_content.specs.Content.{ContentByte, bytes_of}
+use Rattle.first_pass_atoms.specs.declared.autolinks.AutolinkForm.{AutolinkForm}
+use Rattle.first_pass_atoms.specs.declared.autolinks.AutolinkForm.TheVariants.{Uri, Email}
 use Rattle.first_pass_inline.specs.declared.mark.ReferenceForm.TheVariants.{Full, Collapsed, Shortcut}
 use Rattle.first_pass_inline.specs.declared.mark.Span.{Span}
 use Rattle.first_pass_inline.specs.declared.mark.Target.{Target}
 use Rattle.first_pass_inline.specs.declared.mark.Target.TheVariants.{Definition, Inline, Name}
+use Rattle.first_pass_inline.specs.Look.{span}
 
 -- the bytes of a part of a content
 abbrev pub bytes_in : List ContentByte → Span → List ℕ
@@ -19,6 +22,15 @@ bytes_in c s = slice_range (bytes_of c) s.start s.«end»
 -- a range after a space
 abbrev pub spaced_range : Range ℕ → List ℕ
 spaced_range r = codes " " ++ decimal r.start ++ codes ".." ++ decimal r.«end»
+
+-- what is between the `<` and the `>` of an autolink (CommonMark 6.5)
+abbrev pub address_of : Span → Span
+address_of part = span (part.start + 1) (part.«end» - 1)
+
+-- the form of an autolink (CommonMark 6.5)
+abbrev pub form_word : AutolinkForm → List ℕ
+form_word Uri = codes "uri"
+form_word Email = codes "email"
 
 -- the form of a link or an image (CommonMark 6.3; wikilinks: this project)
 abbrev pub form_name : Target → List ℕ

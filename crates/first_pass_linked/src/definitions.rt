@@ -39,8 +39,8 @@ impl<'t, 'a> Definitions<'t, 'a> {
         Ok(Definitions { entries })
     }
 
-    // The destination of the definition with an index, or nothing if there is no such index.
-    pub(crate) fn dest_at(&self, index: usize) -> &str
+    /// Returns the destination of the definition with an index, or nothing if there is no such index.
+    pub fn dest_at(&self, index: usize) -> &str
         ensures { result.now ≡ option_map_or (λ l. l.dest) (slice_get self.now index) [] }
     {
         match self.entries.get(index) {
@@ -49,8 +49,8 @@ impl<'t, 'a> Definitions<'t, 'a> {
         }
     }
 
-    // The title of the definition with an index, if it has one.
-    pub(crate) fn title_at(&self, index: usize) -> Option<&str>
+    /// Returns the title of the definition with an index, if it has one.
+    pub fn title_at(&self, index: usize) -> Option<&str>
         ensures { option_map (λ t. t.now) result ≡ option_and_then (λ l. l.title) (slice_get self.now index) }
     {
         let (_, definition) = self.entries.get(index)?;

@@ -2,10 +2,11 @@
 #![tactic(auto)]
 
 pub mod definitions;
-pub mod footnote;
+pub mod form;
 pub mod laws;
 pub mod lines;
 pub mod links;
-mod part;
+pub mod part;
+pub mod plain;
 pub mod report;
-mod target;
+pub mod target;

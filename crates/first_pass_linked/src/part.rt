@@ -2,9 +2,9 @@
 
 ghost use Rattle.first_pass_content.specs.Content.{byte_at, edge, range_in};
 ghost use Rattle.first_pass_lines.specs.Lines.{is_white_or_line_end};
-ghost use Rattle.first_pass_linked.specs.Targets.{bytes_in, spaced_range};
+ghost use Rattle.first_pass_linked.specs.Targets.{address_of, bytes_in, spaced_range};
 ghost use Rattle.first_pass_links.specs.Labels.{single_spaced};
-ghost use Rattle.std.specs.Prelude.{◌≡◌, ◌∷◌, ◌++◌, OnOk, slice_index};
+ghost use Rattle.std.specs.Prelude.{◌≡◌, ◌<◌, ◌∷◌, ◌++◌, OnOk, drop, slice_index};
 
 use first_pass_content::content::Content;
 use first_pass_inline::mark::Span;
@@ -14,15 +14,15 @@ use first_pass_reports::references::label::bytes_between;
 use std::alloc::AllocError;
 use std::ops::Range;
 
-// The bytes of a part of a content.
-pub(crate) fn bytes_in<'c>(content: &'c Content<'_>, part: Span) -> &'c [u8]
+/// Returns the bytes of a part of a content.
+pub fn bytes_in<'c>(content: &'c Content<'_>, part: Span) -> &'c [u8]
     ensures { result.now ≡ bytes_in content.now part }
 {
     bytes_between(content.bytes(), part.start, part.end)
 }
 
-// The range in the text of the part of a content from one place up to another.
-pub(crate) fn range_in(content: &Content<'_>, from: usize, to: usize) -> Range<usize>
+/// Returns the range in the text of the part of a content from one place up to another.
+pub fn range_in(content: &Content<'_>, from: usize, to: usize) -> Range<usize>
     ensures { result ≡ range_in content.now from to }
 {
     if from < to {
@@ -30,6 +30,24 @@ pub(crate) fn range_in(content: &Content<'_>, from: usize, to: usize) -> Range<u
     }
     let at = edge(content, from);
     at..at
+}
+
+/// Returns the bytes after the first one.
+pub fn after_first(bytes: &[u8]) -> &[u8]
+    ensures { result.now ≡ drop 1 bytes.now }
+{
+    bytes.get(1..).unwrap_or(&[])
+}
+
+/// Returns what is between the `<` and the `>` of an autolink.
+pub fn address_of(part: Span) -> Span
+    requires { part.start < part.«end» }
+    ensures { result ≡ address_of part }
+{
+    Span {
+        start: part.start + 1,
+        end: part.end - 1,
+    }
 }
 
 // The offset of an empty part of a content at a place.
@@ -65,8 +83,8 @@ fn end_at(content: &Content<'_>, place: usize) -> usize
     }
 }
 
-// Appends a range after a space.
-pub(crate) fn append_spaced_range(line: &mut Vec<u8>, range: Range<usize>) -> Result<(), AllocError>
+/// Appends a range after a space. Fails only if an allocation fails.
+pub fn append_spaced_range(line: &mut Vec<u8>, range: Range<usize>) -> Result<(), AllocError>
     ensures { OnOk result (line.new.items ≡ line.old.items ++ spaced_range range) }
 {
     line.push(b' ')?;
@@ -75,8 +93,9 @@ pub(crate) fn append_spaced_range(line: &mut Vec<u8>, range: Range<usize>) -> Re
     append_number(line, range.end)
 }
 
-// Appends a label with each run of white space and line endings as one space (CommonMark 6.3).
-pub(crate) fn append_spelled(line: &mut Vec<u8>, label: &[u8]) -> Result<(), AllocError>
+/// Appends a label with each run of white space and line endings as one space (CommonMark 6.3). Fails only if an
+/// allocation fails.
+pub fn append_spelled(line: &mut Vec<u8>, label: &[u8]) -> Result<(), AllocError>
     ensures { OnOk result (line.new.items ≡ line.old.items ++ single_spaced label.now) }
 {
     let mut rest = label;

@@ -2,13 +2,14 @@
 
 ghost use Rattle.first_pass_content.specs.Content.{bytes_of};
 ghost use Rattle.first_pass_inline.specs.Readable.{IsReadableTarget};
-ghost use Rattle.first_pass_linked.specs.Targets.{bytes_in, destination, form_name, target_text, title_in, unescaped_in};
+ghost use Rattle.first_pass_linked.specs.Targets.{bytes_in, destination, form_name, form_word, target_text, title_in, unescaped_in};
 ghost use Rattle.first_pass_links.specs.Escapes.{unescaped};
 ghost use Rattle.first_pass_reports.specs.Printed.{quoted_title, visible};
 ghost use Rattle.std.specs.Prelude.{◌≡◌, ◌++◌, OnOk, false, IsUtf8};
 
 use crate::lines::LineSource;
 use crate::part::bytes_in;
+use first_pass_atoms::autolinks::AutolinkForm;
 use first_pass_inline::mark::{ReferenceForm, Span, Target};
 use first_pass_links::escape::unescape;
 use first_pass_reports::printed::node::append_visible;
@@ -32,7 +33,8 @@ pub(crate) fn append_target(
     append_title(line, source, target)
 }
 
-fn form_name(target: Target) -> &'static str
+/// Returns the name of the form of a link or an image.
+pub fn form_name(target: Target) -> &'static str
     ensures { result.now ≡ form_name target }
 {
     match target {
@@ -43,6 +45,16 @@ fn form_name(target: Target) -> &'static str
             ReferenceForm::Shortcut => "shortcut",
         },
         Target::Name(_) => "wikilink",
+    }
+}
+
+/// Returns the name of the form of an autolink.
+pub fn form_word(form: AutolinkForm) -> &'static str
+    ensures { result.now ≡ form_word form }
+{
+    match form {
+        AutolinkForm::Uri => "uri",
+        AutolinkForm::Email => "email",
     }
 }
 

@@ -17,8 +17,8 @@ returns-clause-ok g c =
     let options = c.args.subject.options in
     let allocs = c.in_ok-tree.allocs in
     let nodes = c.in_ok-tree.tree.nodes in
-    whole_written text options allocs nodes c.in_ok-tree.ensures _ _ _
-    (c.write_links.ensures (node_lines_of text options allocs nodes) (lines_are_there text options allocs nodes))
+    whole_written (g.F.LineForm.forms c.args.self.now.1) text options allocs nodes c.in_ok-tree.ensures _ _ _
+    (c.write_links.ensures (node_lines_of (g.F.LineForm.forms c.args.self.now.1) text options allocs nodes) (lines_are_there (g.F.LineForm.forms c.args.self.now.1) text options allocs nodes))
 
 pub returns-clause-fault : goal.returns-clause-fault
 returns-clause-fault g c =
@@ -26,5 +26,5 @@ returns-clause-fault g c =
     let options = c.args.subject.options in
     let allocs = c.in_ok-tree.allocs in
     let nodes = c.in_ok-tree.tree.nodes in
-    front_written text options allocs nodes c.in_ok-tree.ensures _ _ _
-    (c.write_links.ensures (node_lines_of text options allocs nodes) (lines_are_there text options allocs nodes))
+    front_written (g.F.LineForm.forms c.args.self.now.1) text options allocs nodes c.in_ok-tree.ensures _ _ _
+    (c.write_links.ensures (node_lines_of (g.F.LineForm.forms c.args.self.now.1) text options allocs nodes) (lines_are_there (g.F.LineForm.forms c.args.self.now.1) text options allocs nodes))

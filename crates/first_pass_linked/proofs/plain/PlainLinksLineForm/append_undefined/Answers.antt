@@ -2,7 +2,7 @@ use Rattle.std.proofs.Common.{ap, codes}
 use Rattle.std.proofs.lemmas.Result.{on_ok_weaker}
 use Rattle.first_pass_linked.specs.Lines.{ended_label, last_range}
 use Rattle.first_pass_linked.proofs.MarkLines.{three_parts}
-use Rattle.first_pass_linked.proofs.lines.append_undefined.Goals as goal
+use Rattle.first_pass_linked.proofs.plain.PlainLinksLineForm.append_undefined.Goals as goal
 
 pub returns : goal.returns
 returns c =
