@@ -4,12 +4,13 @@ use Rattle.first_pass_items.specs.declared.option_set.Options.{Options}
 use Rattle.first_pass_host.specs.TreeReports.{AreTreeLines, Lines}
 use Rattle.first_pass_json.specs.JsonLines.{lines_in}
 use Rattle.first_pass_json.specs.PlacedRanges.{if_wanted, placed_members}
-use Rattle.first_pass_json.specs.ReferenceLines.{links_lines as json_links_lines}
 use Rattle.first_pass_json.specs.declared.page.Part.{Part}
+use Rattle.first_pass_linked.specs.Lines.{plain_forms}
+use Rattle.first_pass_linked.specs.LinkLines.{AreLinkLines}
+use Rattle.first_pass_linked_json.specs.LinkObjects.{json_forms}
 use Rattle.first_pass_outline.specs.ContentsLines.{list_lines, nested_lines, outline_lines}
 use Rattle.first_pass_outline.specs.Lines.{IsListed}
 use Rattle.first_pass_reports.specs.Printed.{printed_lines}
-use Rattle.first_pass_reports.specs.ReferenceLines.{links_lines}
 use Rattle.first_pass_program.specs.declared.words.call.Form.TheVariants.{Text, Json}
 use Rattle.first_pass_program.specs.declared.words.call.ReportName.{ReportName}
 use Rattle.first_pass_program.specs.declared.words.call.ReportName.TheVariants.{Blocks, Outline, Links, Tree, Toc, View, Bench}
@@ -42,8 +43,8 @@ abbrev pub says_in : ReportName → List Part → Bool → Option (List ℕ) →
 says_in Blocks template many clock = λ name. AreTreeLines (λ _. printed_lines)
 says_in (Outline Text) template many clock = λ name. IsListed
 says_in (Outline Json) template many clock = named_if many (AreTreeLines (λ text names nodes _. outline_lines text names nodes))
-says_in (Links Text) template many clock = λ name. AreTreeLines links_lines
-says_in (Links Json) template many clock = named_if many (AreTreeLines json_links_lines)
+says_in (Links Text) template many clock = λ name. AreLinkLines plain_forms
+says_in (Links Json) template many clock = named_if many (AreLinkLines json_forms)
 says_in (Tree lines text) template many clock = named_if many (AreTreeLines (tree_lines lines text))
 says_in (Toc Text) template many clock = λ name. AreTreeLines (λ text names nodes _. list_lines text names nodes)
 says_in (Toc Json) template many clock = headings_if many (AreTreeLines (λ text names nodes _. nested_lines text names nodes))

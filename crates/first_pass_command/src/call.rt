@@ -20,14 +20,15 @@ use first_pass_host::clock::TimeSource;
 use first_pass_host::report::Report;
 use first_pass_host::tree_report::TreeReport;
 use first_pass_items::option_set::Options;
-use first_pass_json::links::ListedLinksJson;
 use first_pass_json::page::Part;
 use first_pass_json::run::JsonTreeWith;
+use first_pass_linked::links::LinkReport;
+use first_pass_linked::plain::PlainLinks;
+use first_pass_linked_json::links::JsonLinks;
 use first_pass_outline::run::{ContentsJson, ContentsList, ListedOutline, OutlineJson};
 use first_pass_program::words::call::{Call, Form, ReportName};
 use first_pass_program::words::file_list::append_names;
 use first_pass_reports::printed::run::PrintedBlocks;
-use first_pass_reports::references::run::ListedLinks;
 use std::alloc::{AllocError, Global};
 use std::io::Write;
 
@@ -36,12 +37,9 @@ const BLOCKS: TreeReport<BlockParser, PrintedBlocks> = TreeReport(BlockParser, P
 
 const OUTLINE_JSON: TreeReport<BlockParser, OutlineJson> = TreeReport(BlockParser, OutlineJson);
 
-const LINKS: TreeReport<BlockParser, ListedLinks> = TreeReport(BlockParser, ListedLinks);
+const LINKS: LinkReport<BlockParser, PlainLinks> = LinkReport(BlockParser, PlainLinks);
 
-const LINKS_JSON: TreeReport<BlockParser, ListedLinksJson> = TreeReport(
-    BlockParser,
-    ListedLinksJson,
-);
+const LINKS_JSON: LinkReport<BlockParser, JsonLinks> = LinkReport(BlockParser, JsonLinks);
 
 const CONTENTS: TreeReport<BlockParser, ContentsList> = TreeReport(BlockParser, ContentsList);
 

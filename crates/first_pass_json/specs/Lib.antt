@@ -3,5 +3,4 @@ pub mod JsonValues
 pub mod Members
 pub mod Page
 pub mod PlacedRanges
-pub mod ReferenceLines
 pub mod Scripts

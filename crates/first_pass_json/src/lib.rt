@@ -1,12 +1,11 @@
 //! A tree and its tables as lines of JSON: an object for each node, each link definition and each footnote's label.
-//! Also what the program `links` lists, and a page that shows a text with its tree.
+//! Also a page that shows a text with its tree.
 #![tactic(auto)]
 
 pub mod array;
 pub mod definition;
 pub mod heading;
 pub mod laws;
-pub mod links;
 pub mod node;
 pub mod page;
 pub mod page_laws;

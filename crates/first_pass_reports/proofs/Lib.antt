@@ -1,2 +1,1 @@
-mod Named
 pub mod NodeLines

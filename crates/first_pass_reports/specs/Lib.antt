@@ -3,4 +3,3 @@ pub mod Printed
 pub mod Visible
 pub mod ReferenceLines
 pub mod Pairs
-pub mod References

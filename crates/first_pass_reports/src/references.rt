@@ -1,7 +1,4 @@
-//! The references of a text by label, for documentation checkers: pairs of brackets whose label has a link definition.
-//! Also lists the link definitions and the footnotes.
+//! The lines of link definitions, and the bytes of a token in a text.
 
 pub mod label;
 pub mod lines;
-pub mod reference;
-pub mod run;

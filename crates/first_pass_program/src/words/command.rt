@@ -12,7 +12,7 @@ pub fn command<'a>(alloc: Global, names: &'a str) -> Result<Command<'a>, AllocEr
     ensures { IfOk result (λ command. app_of command ≡ first_pass_app) }
 {
     let outline = "print the level, range and id of each heading, a heading a line";
-    let links = "print link definitions, footnotes and references by label";
+    let links = "print links, images, footnotes, link definitions and undefined references";
     let toc = "write a table of contents: the headings, nested";
     whole(alloc)
         .subcommand(blocks(alloc, names)?)?

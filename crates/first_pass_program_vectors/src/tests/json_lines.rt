@@ -1,12 +1,13 @@
-//! The lines of JSON of a tree with places and texts, and of what `links` lists.
+//! The lines of JSON of a tree with places and texts, and of links.
 
 use bitflags::Flags;
 use first_pass_blocks::parser::BlockParser;
 use first_pass_host::report::{Report, Subject};
 use first_pass_host::tree_report::TreeReport;
 use first_pass_items::option_set::Options;
-use first_pass_json::links::ListedLinksJson;
 use first_pass_json::run::JsonTreeWith;
+use first_pass_linked::links::LinkReport;
+use first_pass_linked_json::links::JsonLinks;
 use std::alloc::{AllocError, Global};
 use std::test::Fail;
 
@@ -109,17 +110,31 @@ fn ranges_have_places_and_texts(rt: HostRuntime) -> Result<(), Fail> {
     Ok(())
 }
 
+// A text with each sort of line of `links`, and those lines. A footnote's label is a quotation mark.
+const LINKED: &str = "[b]: </c d>\n[A]: /1 \"t\"\n\n\
+    [^\"]: ![B] [x](y\\\" (\\\\&#10;)) <m@n.o> [^\"] [\"  z] [[p|q]] [r][a]\n";
+
+const LINKED_LINES: &str =
+    "{\"definition\":\"A\",\"destination\":\"/1\",\"title\":\"t\",\"start\":12,\"end\":23}\n\
+    {\"definition\":\"b\",\"destination\":\"/c d\",\"title\":null,\"start\":0,\"end\":11}\n\
+    {\"footnote\":\"\\\"\",\"start\":25,\"end\":90}\n\
+    {\"image\":\"shortcut\",\"destination\":\"/c d\",\"title\":null,\"start\":31,\"end\":35,\"text_start\":33,\
+    \"text_end\":34}\n\
+    {\"link\":\"inline\",\"destination\":\"y\\\"\",\"title\":\"\\\\\\n\",\"start\":36,\"end\":54,\"text_start\":37,\
+    \"text_end\":38}\n\
+    {\"autolink\":\"email\",\"destination\":\"m@n.o\",\"start\":55,\"end\":62,\"text_start\":56,\"text_end\":61}\n\
+    {\"footnote_reference\":\"\\\"\",\"start\":63,\"end\":67}\n\
+    {\"undefined\":\"\\\" z\",\"start\":68,\"end\":74}\n\
+    {\"link\":\"wikilink\",\"destination\":\"p\",\"title\":null,\"start\":75,\"end\":82,\"text_start\":79,\
+    \"text_end\":80}\n\
+    {\"link\":\"full\",\"destination\":\"/1\",\"title\":\"t\",\"start\":83,\"end\":89,\"text_start\":84,\
+    \"text_end\":85}\n";
+
 #[test]
-fn references_are_listed_as_json(rt: HostRuntime) -> Result<(), Fail> {
-    // A footnote whose label is a quotation mark, two definitions, and an image of the first of them.
-    let text = "[b]: </c d>\n[A]: /1 \"t\"\n\n[^\"]: ![B]\n";
-    let want =
-        "{\"definition\":\"A\",\"destination\":\"/1\",\"title\":\"t\",\"start\":12,\"end\":23}\n\
-        {\"definition\":\"b\",\"destination\":\"/c d\",\"title\":null,\"start\":0,\"end\":11}\n\
-        {\"footnote\":\"\\\"\",\"start\":25,\"end\":36}\n\
-        {\"reference\":\"/c d\",\"start\":31,\"end\":35}\n";
-    let links = &TreeReport(BlockParser, ListedLinksJson);
-    let lines = lines_of(rt.alloc(), links, text, Options::ENABLE_FOOTNOTES)?;
-    assert!(rt; lines.as_str() == want, "{lines}");
+fn links_are_listed_as_json(rt: HostRuntime) -> Result<(), Fail> {
+    let options = Options::ENABLE_FOOTNOTES.union(Options::ENABLE_WIKILINKS);
+    let links = &LinkReport(BlockParser, JsonLinks);
+    let lines = lines_of(rt.alloc(), links, LINKED, options)?;
+    assert!(rt; lines.as_str() == LINKED_LINES, "{lines}");
     Ok(())
 }
