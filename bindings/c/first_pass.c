@@ -311,29 +311,34 @@ void first_pass_tree_free(struct first_pass_tree *tree) {
     }
 }
 
-/* A folding: in `small`, or in memory of its own. */
+/* A folding with a byte to spare before it and after it: in `small`, or in memory of its own. */
 struct folding {
     const struct first_pass_allocator *allocator;
-    uint8_t *bytes;
+    uint8_t *memory;
     size_t length;
-    uint8_t small[SMALL_FOLDING];
+    uint8_t small[SMALL_FOLDING + 2];
 };
 
+static uint8_t *folded(const struct folding *folding) {
+    return folding->memory + 1;
+}
+
 static void end_folding(struct folding *folding) {
-    if (folding->bytes != folding->small) {
-        folding->allocator->release(folding->allocator->data, folding->bytes);
+    if (folding->memory != folding->small) {
+        folding->allocator->release(folding->allocator->data, folding->memory);
     }
 }
 
 /* Makes each run of white space one space, as labels of a tree have it. Folding changes no white space. */
 static void merge_white_space(struct folding *folding) {
+    uint8_t *bytes = folded(folding);
     size_t length = 0;
     for (size_t i = 0; i < folding->length; i++) {
-        bool is_white = folding->bytes[i] == ' ' || (folding->bytes[i] >= '\t' && folding->bytes[i] <= '\r');
+        bool is_white = bytes[i] == ' ' || (bytes[i] >= '\t' && bytes[i] <= '\r');
         if (!is_white) {
-            folding->bytes[length++] = folding->bytes[i];
-        } else if (length == 0 || folding->bytes[length - 1] != ' ') {
-            folding->bytes[length++] = ' ';
+            bytes[length++] = bytes[i];
+        } else if (length == 0 || bytes[length - 1] != ' ') {
+            bytes[length++] = ' ';
         }
     }
     folding->length = length;
@@ -344,15 +349,15 @@ static uint32_t fold(struct folding *folding, const struct first_pass_allocator 
                      size_t length) {
     const struct first_pass_allocator *outer = current;
     folding->allocator = allocator;
-    folding->bytes = folding->small;
+    folding->memory = folding->small;
     current = allocator;
-    uint32_t status = first_pass_fold(label, length, folding->bytes, SMALL_FOLDING, &folding->length);
+    uint32_t status = first_pass_fold(label, length, folded(folding), SMALL_FOLDING, &folding->length);
     if (status == FIRST_PASS_TOO_SMALL) {
         size_t capacity = folding->length;
-        folding->bytes = allocator->allocate(allocator->data, capacity);
-        status = folding->bytes != NULL ? first_pass_fold(label, length, folding->bytes, capacity, &folding->length)
-                                        : (uint32_t)FIRST_PASS_OUT_OF_MEMORY;
-        if (folding->bytes != NULL && status != FIRST_PASS_OK) {
+        folding->memory = allocator->allocate(allocator->data, capacity + 2);
+        status = folding->memory != NULL ? first_pass_fold(label, length, folded(folding), capacity, &folding->length)
+                                         : (uint32_t)FIRST_PASS_OUT_OF_MEMORY;
+        if (folding->memory != NULL && status != FIRST_PASS_OK) {
             end_folding(folding);
         }
     }
@@ -363,16 +368,22 @@ static uint32_t fold(struct folding *folding, const struct first_pass_allocator 
     return status;
 }
 
-/* Compares a folding with that of a definition's label: less than 0, 0 or more, as memcmp. */
-static uint32_t compare(const struct folding *wanted, const struct first_pass_tree *tree, size_t i, int *order) {
+/* What is sought: the bytes of a folding, or of a part of one. */
+struct key {
+    const uint8_t *bytes;
+    size_t length;
+};
+
+/* Compares a key with the folding of a definition's label: less than 0, 0 or more, as memcmp. */
+static uint32_t compare(const struct key *wanted, const struct first_pass_tree *tree, size_t i, int *order) {
     const struct first_pass_definition *definition = &tree->definitions[i];
     struct folding other;
     uint32_t status =
-        fold(&other, wanted->allocator, (const uint8_t *)tree->strings + definition->label, definition->label_length);
+        fold(&other, allocator_of(tree), (const uint8_t *)tree->strings + definition->label, definition->label_length);
     if (status != FIRST_PASS_OK) {
         return status;
     }
-    *order = memcmp(wanted->bytes, other.bytes, wanted->length < other.length ? wanted->length : other.length);
+    *order = memcmp(wanted->bytes, folded(&other), wanted->length < other.length ? wanted->length : other.length);
     if (*order == 0) {
         *order = (wanted->length > other.length) - (wanted->length < other.length);
     }
@@ -380,11 +391,12 @@ static uint32_t compare(const struct folding *wanted, const struct first_pass_tr
     return FIRST_PASS_OK;
 }
 
-/* Searches the link definitions, which are sorted by the foldings of their labels. */
-static uint32_t search(const struct folding *wanted, const struct first_pass_tree *tree,
+/* Searches the link definitions, which are sorted by the foldings of their labels. NULL if none has the key. */
+static uint32_t search(const struct key *wanted, const struct first_pass_tree *tree,
                        const struct first_pass_definition **found) {
     size_t from = 0;
     size_t to = tree->link_count;
+    *found = NULL;
     while (from < to) {
         size_t middle = from + (to - from) / 2;
         int order = 0;
@@ -405,13 +417,41 @@ static uint32_t search(const struct folding *wanted, const struct first_pass_tre
     return FIRST_PASS_OK;
 }
 
+/*
+ * Finds the definition that begins first, of those whose label is the folded one but for white space at its ends. A
+ * table may have four: without a space at the ends, with one before or after, and with both.
+ */
+static uint32_t search_each(struct folding *label, const struct first_pass_tree *tree,
+                            const struct first_pass_definition **found) {
+    uint8_t *from = folded(label);
+    uint8_t *to = from + label->length;
+    from += from < to && *from == ' ';
+    to -= from < to && to[-1] == ' ';
+    from[-1] = ' ';
+    *to = ' ';
+    for (int spaces = 0; from < to && spaces < 4; spaces++) {
+        int before = spaces & 1;
+        struct key wanted = {from - before, (size_t)(to - from + before + (spaces >> 1))};
+        const struct first_pass_definition *other;
+        uint32_t status = search(&wanted, tree, &other);
+        if (status != FIRST_PASS_OK) {
+            *found = NULL;
+            return status;
+        }
+        if (other != NULL && (*found == NULL || other->start < (*found)->start)) {
+            *found = other;
+        }
+    }
+    return FIRST_PASS_OK;
+}
+
 enum first_pass_status first_pass_find_definition(const struct first_pass_tree *tree, const char *label, size_t length,
                                                   const struct first_pass_definition **found) {
     struct folding wanted;
     *found = NULL;
     uint32_t status = fold(&wanted, allocator_of(tree), (const uint8_t *)(label != NULL ? label : ""), length);
     if (status == FIRST_PASS_OK) {
-        status = search(&wanted, tree, found);
+        status = search_each(&wanted, tree, found);
         end_folding(&wanted);
     }
     return (enum first_pass_status)status;

@@ -100,8 +100,13 @@ enum first_pass_kind {
      * first_pass_heading_attribute_count()
      */
     FIRST_PASS_NODE_HEADING = 4,
-    FIRST_PASS_NODE_FENCED_CODE_BLOCK = 5, /**< the string is its info string */
-    FIRST_PASS_NODE_INDENT_CODE_BLOCK = 6,
+    /**
+     * The string is its info string. The code is that of its children, one after the other: the string of a
+     * FIRST_PASS_NODE_SYNTHESIZE_TEXT, which has the spaces that are left of a tab, and the bytes of any other. Each
+     * line then has its line ending, of which CR LF is a newline alone.
+     */
+    FIRST_PASS_NODE_FENCED_CODE_BLOCK = 5,
+    FIRST_PASS_NODE_INDENT_CODE_BLOCK = 6, /**< its code is read as that of a fenced code block */
     FIRST_PASS_NODE_HTML_BLOCK = 7,
     FIRST_PASS_NODE_BLOCK_QUOTE = 8, /**< first_pass_block_quote_kind() */
     /** first_pass_list_is_tight(), first_pass_list_byte(), first_pass_list_number() */
@@ -201,7 +206,8 @@ struct first_pass_attribute {
 /**
  * A link reference definition, or the label of a footnote: 104 bytes. Of a footnote's label only `label` and
  * `label_length` have a meaning. Only the first definition of a label is there. A label has each run of white space as
- * one space.
+ * one space, also at its ends: `[a]`, `[ a]`, `[a ]` and `[ a ]` may each have a record, of which
+ * first_pass_find_definition() finds the one that counts.
  */
 struct first_pass_definition {
     uint64_t start;              /**< the range in the text: its first byte */
@@ -438,8 +444,9 @@ FIRST_PASS_API void first_pass_tree_free(struct first_pass_tree *tree);
 /**
  * @brief Finds the link definition that a label refers to.
  *
- * Labels match as references do: letter case is ignored, and a run of white space is the same as one space. White
- * space at the start or the end of a label counts.
+ * Labels match as in CommonMark 4.7: letter case and white space at the ends of a label are ignored, and a run of
+ * white space is the same as one space. Of the definitions of a label the one that begins first in the text is found.
+ * A label of white space alone has none.
  *
  * @param[in] tree the tree that has it
  * @param[in] label the bytes between the brackets, without the prefixes of containers; may be NULL if `length` is 0

@@ -297,7 +297,8 @@ static void test_find(void) {
     CHECK(found->title_start == found->destination_end + 1 && found->end == found->title_start + 7);
     found = find(tree, "ss");
     CHECK(found->title_start == found->end && found->destination_end == found->end);
-    CHECK(find(tree, "") == NULL && find(tree, " label") == NULL && find(tree, "label ") == NULL);
+    CHECK(find(tree, " label") == find(tree, "label") && find(tree, "\tLABEL\r\n") == find(tree, "label"));
+    CHECK(find(tree, "") == NULL && find(tree, " ") == NULL && find(tree, "\t\n\x0b\x0c\r ") == NULL);
     CHECK(find(tree, "labe") == NULL && find(tree, "labels") == NULL && find(tree, "note") == NULL);
     CHECK(find(tree, "zzz") == NULL && find(tree, "\xf0\x9f\x98\x80") == NULL);
     CHECK(first_pass_find_definition(tree, NULL, 0, &found) == FIRST_PASS_OK && found == NULL);
@@ -306,20 +307,54 @@ static void test_find(void) {
     first_pass_tree_free(tree);
 }
 
-/* Each of a thousand labels is found, also those whose folding is long. */
+/*
+ * White space at the ends of a label doesn't count: of the definitions whose labels differ in it alone, the one that
+ * begins first is found, by each of their labels.
+ */
+static void test_find_by_ends(void) {
+    static const struct {
+        const char *text, *destination;
+        size_t count;
+    } texts[] = {
+        {"[ only ]: /1\n\n[only]", "/1", 1},
+        {"[ only ]: /1\n[only]: /2", "/1", 2},
+        {"[only]: /2\n[ only ]: /1", "/2", 2},
+        {"[only ]: /3\n[ only ]: /1\n[ only]: /4\n[only]: /2", "/3", 4},
+        {"[a]: /a\n[ Only]: /4\n[only]: /2\n[only ]: /3\n[zz]: /z\n[\tonly\n]: /1", "/4", 6},
+    };
+    static const char *const labels[] = {"only", " ONLY", "only\n", "\t Only \r\n"};
+    for (size_t i = 0; i < sizeof texts / sizeof *texts; i++) {
+        struct first_pass_tree *tree = parsed(texts[i].text, strlen(texts[i].text));
+        CHECK(tree->link_count == texts[i].count && find(tree, "onl") == NULL && find(tree, " ") == NULL);
+        for (size_t j = 0; j < sizeof labels / sizeof *labels; j++) {
+            const struct first_pass_definition *found = find(tree, labels[j]);
+            CHECK(found != NULL && found->destination_length == 2 &&
+                  memcmp(tree->strings + found->destination, texts[i].destination, 2) == 0);
+        }
+        first_pass_tree_free(tree);
+    }
+    struct first_pass_tree *tree = parsed("[\tA  b ]: /1\n[ ]: /2", 22);
+    CHECK(tree->link_count == 1 && is_definition(tree, find(tree, "a B"), " A b ", "/1", NULL));
+    CHECK(find(tree, "\na\t\tb") != NULL && find(tree, " a b ") != NULL && find(tree, "ab") == NULL);
+    first_pass_tree_free(tree);
+}
+
+/* Each of a thousand labels is found, also those whose folding is long, and those with white space at their ends. */
 static void test_find_many(void) {
     char *text = NULL;
     size_t length = 0;
     FILE *out = open_memstream(&text, &length);
     for (int i = 0; i < 1000; i++) {
-        fprintf(out, "[%s%0*d]: /%d\n", i % 2 == 0 ? "\xc3\x84" : "Z", i % 7 == 0 ? 300 : 1, i, i);
+        const char *before = i % 3 == 0 ? " " : "", *after = i % 5 == 0 ? "\t" : "";
+        fprintf(out, "[%s%s%0*d%s]: /%d\n", before, i % 2 == 0 ? "\xc3\x84" : "Z", i % 7 == 0 ? 252 + i % 6 : 1, i,
+                after, i);
     }
     fclose(out);
     struct first_pass_tree *tree = parsed(text, length);
     CHECK(tree->link_count == 1000);
     for (int i = 0; i < 1000; i++) {
         char label[400], destination[20], missing[404];
-        snprintf(label, sizeof label, "%s%0*d", i % 2 == 0 ? "\xc3\xa4" : "z", i % 7 == 0 ? 300 : 1, i);
+        snprintf(label, sizeof label, "%s%0*d", i % 2 == 0 ? "\xc3\xa4" : "z", i % 7 == 0 ? 252 + i % 6 : 1, i);
         snprintf(missing, sizeof missing, "%s.", label);
         snprintf(destination, sizeof destination, "/%d", i);
         const struct first_pass_definition *found = find(tree, label);
@@ -352,6 +387,36 @@ static int leave_node(const struct first_pass_node *node, void *data) {
     seen->depth--;
     CHECK(node == &seen->tree->nodes[seen->open[seen->depth]] && node->next == seen->entered);
     return seen->end_at == 1000u + node->kind ? -3 : 0;
+}
+
+/* Whether the code of the first code block of a text is this, joined as the header says. */
+static bool has_code(const char *text, const char *wanted) {
+    struct first_pass_tree *tree = parsed(text, strlen(text));
+    char code[100];
+    size_t length = 0, i = 0;
+    while (tree->nodes[i].kind != FIRST_PASS_NODE_FENCED_CODE_BLOCK &&
+           tree->nodes[i].kind != FIRST_PASS_NODE_INDENT_CODE_BLOCK) {
+        i++;
+    }
+    for (size_t c = first_pass_first_child(tree, i); c != 0; c = first_pass_next_sibling(tree, c)) {
+        const struct first_pass_node *node = &tree->nodes[c];
+        bool is_string = node->kind == FIRST_PASS_NODE_SYNTHESIZE_TEXT;
+        size_t count = is_string ? node->string_length : node->end - node->start;
+        memcpy(code + length, is_string ? first_pass_node_string(tree, node) : text + node->start, count);
+        length += count;
+    }
+    first_pass_tree_free(tree);
+    return length == strlen(wanted) && memcmp(code, wanted, length) == 0;
+}
+
+static void test_code(void) {
+    CHECK(has_code("> ~~~\n>\t\tx", "  \tx"));
+    CHECK(has_code("~~~ a\r\nb\r\n\r\nc\r\n~~~\r\n", "b\n\nc\n"));
+    CHECK(has_code("> ~~~\n> a\n>\n>  b\n", "a\n\n b\n"));
+    CHECK(has_code("    a\n\n \t\tb\n\n", "a\n\n\tb\n"));
+    CHECK(has_code("-\t\ta\n\n\t\tb", "  a\n\n  b"));
+    CHECK(has_code("~~~\n~~~\n", "") && has_code("~~~", ""));
+    CHECK(has_code("~~~\na\rb", "a\rb"));
 }
 
 static void test_walk(void) {
@@ -503,10 +568,12 @@ int main(void) {
     test_quotes();
     test_names();
     test_find();
+    test_find_by_ends();
     test_find_many();
     test_walk();
     test_children();
     test_strings();
+    test_code();
     test_allocator();
     test_string_ranges();
     test_versions();

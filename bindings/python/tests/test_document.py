@@ -97,7 +97,7 @@ class EveryKindTest(unittest.TestCase):
             self.assertIs(pickle.loads(pickle.dumps(kind)), kind)
             self.assertIs(copy.deepcopy(kind), kind)
         for other in (4, "heading", None):
-            with self.assertRaises(KeyError):
+            with self.assertRaisesRegex(KeyError, f"no kind .*{other}.*: the kinds are Root, .*, TaskListMarker"):
                 next(document.find(other))
 
     def test_every_kind_is_there(self):
@@ -209,8 +209,9 @@ class TreeTest(unittest.TestCase):
         self.assertEqual(sorted(parents), list(range(1, len(document))))
         self.assertEqual(list(document.children()), list(document.children(0)))
         self.assertEqual(list(document.children(-1)), [])
-        with self.assertRaises(IndexError):
-            next(document.children(len(document)))
+        for index in (len(document), -len(document) - 1):
+            with self.assertRaisesRegex(IndexError, f"no node {index}: the document has {len(document)}"):
+                next(document.children(index))
 
     def test_find(self):
         expected = [index for index, node in enumerate(self.document) if node.kind == Kind.Text]
@@ -233,6 +234,28 @@ class TreeTest(unittest.TestCase):
         self.assertEqual(document.string_range(-len(document)), document.string_range(0))
         with self.assertRaises(IndexError):
             document.string_range(len(document))
+
+    def test_code(self):
+        for text, wanted in (
+            ("> ~~~\n>\t\tx", "  \tx"),
+            ("~~~ a\r\nb\r\n\r\nc\r\n~~~\r\n", "b\n\nc\n"),
+            ("> ~~~\n> \u00e9\n>\n>  b\n", "\u00e9\n\n b\n"),
+            ("~~~\na\\&amp;\n\n b\n~~~\n", "a\\&amp;\n\n b\n"),
+            ("    a\n\n \t\tb\n\n", "a\n\n\tb\n"),
+            ("-\t\ta\n\n\t\tb", "  a\n\n  b"),
+            ("~~~\n~~~\n", ""),
+            ("~~~", ""),
+            ("~~~\na\rb", "a\rb"),
+        ):
+            document = parse(text)
+            found = [document.code(index) for index in range(len(document))]
+            self.assertEqual([code for code in found if code is not None], [wanted], text)
+            self.assertEqual([document.code(index) for index in range(-len(document), 0)], found)
+        document = parse("a `b`\n\n<pre>\nc\n</pre>\n")
+        self.assertEqual({document.code(index) for index in range(len(document))}, {None})
+        for index in (len(document), -len(document) - 1):
+            with self.assertRaises(IndexError):
+                document.code(index)
 
     def test_an_unknown_kind_is_a_plain_node(self):
         source = parse("a")
@@ -330,11 +353,46 @@ class DefinitionsTest(unittest.TestCase):
             self.assertEqual(self.definitions[label].destination, "/s")
 
     def test_other_labels(self):
-        for label in ("", "c", " b", "b ", "ac", "^N", "\ud800", "a\u00a0c", None, 5, b"b"):
+        for label in ("", "c", " ", "\t\n\x0b\x0c\r ", "\u00a0b", "ac", "^N", "\ud800", "a\u00a0c", None, 5, b"b"):
             self.assertNotIn(label, self.definitions)
             self.assertIsNone(self.definitions.get(label))
         with self.assertRaises(KeyError):
             self.definitions["nothing"]
+
+    def test_the_ends_of_labels(self):
+        """White space at the ends of a label doesn't count: of the definitions whose labels differ in it alone, the one
+        that begins first is found, by each of their labels."""
+        for text, wanted, count in (
+            ("[ only ]: /1\n\n[only]", "/1", 1),
+            ("[ only ]: /1\n[only]: /2", "/1", 2),
+            ("[only]: /2\n[ only ]: /1", "/2", 2),
+            ("[only ]: /3\n[ only ]: /1\n[ only]: /4\n[only]: /2", "/3", 4),
+            ("[a]: /a\n[ Only]: /4\n[only]: /2\n[only ]: /3\n[zz]: /z\n[\tonly\n]: /1", "/4", 6),
+        ):
+            definitions = parse(text).definitions
+            self.assertEqual(len(definitions), count)
+            for label in ("only", " ONLY", "only\n", "\t Only \r\n"):
+                self.assertEqual(definitions[label].destination, wanted, (text, label))
+            for label in ("onl", " "):
+                self.assertNotIn(label, definitions)
+        definitions = parse("[\tA  b ]: /1\n[ ]: /2").definitions
+        self.assertEqual(definitions["a B"].label, " A b ")
+        self.assertEqual(definitions["\na\t\tb"], definitions.get(" a b "))
+        self.assertEqual(list(definitions), [" A b "])
+        self.assertIsNone(definitions.get("ab"))
+
+    def test_all_definitions_are_listed(self):
+        definitions = parse("[foo]: /2\n[ foo ]: /1\n[Foo]: /3\n").definitions
+        self.assertEqual([it.destination for it in definitions.values()], ["/1", "/2"])
+        self.assertEqual(
+            [(label, it.destination) for label, it in definitions.items()], [(" foo ", "/1"), ("foo", "/2")]
+        )
+        self.assertEqual({it.destination for it in dict(definitions).values()}, {"/2"})
+        first, second = definitions.values()
+        self.assertTrue(first in definitions.values() and (" foo ", first) in definitions.items())
+        self.assertFalse((" foo ", second) in definitions.items() or None in definitions.values())
+        self.assertEqual((len(definitions.values()), len(definitions.items())), (2, 2))
+        self.assertEqual(definitions.items(), {" foo ": first, "foo": second}.items())
 
     def test_long_labels(self):
         label = "\u0390" * 333

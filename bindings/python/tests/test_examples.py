@@ -57,7 +57,7 @@ class ExamplesTest(unittest.TestCase):
             "a.md: nothing refers to [unused]",
         ]
         self.assertEqual(self.run_example("link_checker.py", "a.md", status=1).splitlines(), expected)
-        (self.folder / "b.md").write_text("[a]\n\n[a]: a.md\n")
+        (self.folder / "b.md").write_text("[a] [d\n] [ E ][]\n\n[a]: a.md\n[ d ]: a.md\n[e]: #e\n")
         self.assertEqual(self.run_example("link_checker.py", "b.md"), "")
 
     @unittest.skipUnless(DASK, "dask and distributed are not installed")

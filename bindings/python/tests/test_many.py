@@ -84,6 +84,9 @@ class ManyTest(unittest.TestCase):
             self.assertEqual(found, [parse(text) for text in TEXTS[:5]])
 
     def test_a_text_of_another_type(self):
+        for text in ("abc", b"abc", bytearray(b"abc")):
+            with self.assertRaisesRegex(TypeError, f"no {type(text).__name__}: parse reads one text"):
+                parse_many(text)
         for given, kind in (([5], TypeError), (["a", None], TypeError)):
             with self.assertRaises(kind):
                 list(parse_many(given, threads=2))

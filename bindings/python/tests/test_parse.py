@@ -63,6 +63,8 @@ class TextTest(unittest.TestCase):
         self.assertEqual(len(list(parse("| a |\n|---|\n", Options.TABLES).find(first_pass.Kind.Table))), 1)
         self.assertEqual(len(list(parse("| a |\n|---|\n").find(first_pass.Kind.Table))), 0)
         self.assertEqual(parse("a", Options.TABLES | Options.MATH), parse("a", 1026))
+        with self.assertRaisesRegex(TypeError, "Options.from_names reads names, as 'github'"):
+            parse("a", "github")
 
     def test_the_default_is_commonmark(self):
         text = "# a {#b}\n\n|c|\n|-|\n"

@@ -8,7 +8,7 @@ use std::fmt;
 /// ```
 /// use first_pass::{Body, Options};
 ///
-/// let document = first_pass::parse("# One {#install .wide lang=en draft}", Options::all())?;
+/// let document = first_pass::parse("# One {#install .wide lang=en draft}", Options::DOCS)?;
 /// let heading = document.tree().node(1).unwrap();
 /// let Body::Heading { attributes, .. } = heading.body() else { unreachable!() };
 /// assert_eq!(attributes.id(), Some("install"));

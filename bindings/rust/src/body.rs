@@ -25,12 +25,12 @@ pub enum Body<'d> {
         /// What its attribute block says.
         attributes: Attributes<'d>,
     },
-    /// A fenced code block.
+    /// A fenced code block. [`Node::code`](crate::Node::code) has its code.
     FencedCodeBlock {
         /// The info string, without escapes and references.
         info: &'d str,
     },
-    /// An indented code block.
+    /// An indented code block. [`Node::code`](crate::Node::code) has its code.
     IndentCodeBlock,
     /// An HTML block.
     HtmlBlock,

@@ -3,10 +3,12 @@
 use crate::records::{DefinitionRecord, Records};
 use crate::{Error, archive};
 use std::cmp::Ordering;
-use std::fmt;
+use std::iter::FusedIterator;
 use std::ops::Range;
+use std::{fmt, slice};
 
-/// The link definitions of a text. Of several with one label it has the first.
+/// The link definitions of a text. Of those with one label it has the first alone. Labels that differ in white space
+/// at their ends are several here, and one for [`Definitions::get`].
 ///
 /// ```
 /// # use first_pass::Options;
@@ -16,6 +18,9 @@ use std::ops::Range;
 /// assert_eq!(definition.destination, "/x");
 /// assert_eq!(definition.title, Some("y"));
 /// assert_eq!(definitions.get("three")?, None);
+/// for definition in definitions {
+///     assert_eq!(definition.label, "One two");
+/// }
 /// # Ok::<(), first_pass::Error>(())
 /// ```
 #[derive(Clone, Copy)]
@@ -38,34 +43,65 @@ impl<'d> Definitions<'d> {
         self.len() == 0
     }
 
-    /// The definitions in the byte order of their labels' foldings.
-    pub fn iter(self) -> impl ExactSizeIterator<Item = Definition<'d>> + DoubleEndedIterator {
-        let records = self.records;
-        records.links().iter().map(move |link| Definition::new(link, records))
+    /// The definitions in the byte order of their labels' foldings, and not of the text. A later definition of a label
+    /// is not among them.
+    pub fn iter(self) -> DefinitionIter<'d> {
+        DefinitionIter { records: self.records, links: self.records.links().iter() }
     }
 
-    /// The definition that a reference with this label refers to.
+    /// The definition that a reference with this label refers to, by CommonMark 4.7.
     ///
     /// The label is what stands between the brackets, without the prefixes of containers if it is on several lines.
-    /// Its case doesn't count, and each run of white space in it counts as one space, also at its start and its end.
-    /// Backslashes count.
+    /// Its case doesn't count, nor does white space at its ends, and each run of white space in it is the same as one
+    /// space. Backslashes count. Of the definitions of a label it is the one that begins first in the text. A label of
+    /// white space alone has none.
+    ///
+    /// ```
+    /// # use first_pass::Options;
+    /// let document = first_pass::parse("[ foo ]: /1\n[foo]: /2\n", Options::COMMONMARK)?;
+    /// let definitions = document.tree().definitions();
+    /// assert_eq!(definitions.get("Foo")?.unwrap().destination, "/1");
+    /// assert_eq!(definitions.get(" ")?, None);
+    /// # Ok::<(), first_pass::Error>(())
+    /// ```
     ///
     /// # Errors
     ///
     /// [`Error::OutOfMemory`] if a request for memory is refused.
     pub fn get(self, label: &str) -> Result<Option<Definition<'d>>, Error> {
-        let links = self.records.links();
+        let label = label.trim_matches(is_white);
+        if label.is_empty() {
+            return Ok(None);
+        }
         let mut wanted = Vec::new();
-        archive::fold(&with_single_spaces(label)?, &mut wanted)?;
+        archive::fold(&between_spaces(label)?, &mut wanted)?;
+        let mut first: Option<&DefinitionRecord> = None;
         let mut key = Vec::new();
+        // A label of the table may have a space at each end, or at one, or at none.
+        for (before, after) in [(0, 0), (0, 1), (1, 0), (1, 1)] {
+            let end = wanted.len() - after;
+            if let Some(link) = self.search(&wanted[before..end], &mut key)? {
+                first = first.filter(|other| other.start < link.start).or(Some(link));
+            }
+        }
+        Ok(first.map(|link| Definition::new(link, self.records)))
+    }
+
+    /// The record whose label has this folding.
+    fn search(
+        self,
+        wanted: &[u8],
+        key: &mut Vec<u8>,
+    ) -> Result<Option<&'d DefinitionRecord>, Error> {
+        let links = self.records.links();
         let (mut low, mut high) = (0, links.len());
         while low < high {
             let middle = low.midpoint(high);
             let link = &links[middle];
-            archive::fold(self.records.string(link.label, link.label_length), &mut key)?;
-            match key.cmp(&wanted) {
+            archive::fold(self.records.string(link.label, link.label_length), key)?;
+            match key.as_slice().cmp(wanted) {
                 Ordering::Less => low = middle + 1,
-                Ordering::Equal => return Ok(Some(Definition::new(link, self.records))),
+                Ordering::Equal => return Ok(Some(link)),
                 Ordering::Greater => high = middle,
             }
         }
@@ -73,9 +109,62 @@ impl<'d> Definitions<'d> {
     }
 }
 
+impl<'d> IntoIterator for Definitions<'d> {
+    type Item = Definition<'d>;
+    type IntoIter = DefinitionIter<'d>;
+
+    fn into_iter(self) -> DefinitionIter<'d> {
+        self.iter()
+    }
+}
+
+impl<'d> IntoIterator for &Definitions<'d> {
+    type Item = Definition<'d>;
+    type IntoIter = DefinitionIter<'d>;
+
+    fn into_iter(self) -> DefinitionIter<'d> {
+        self.iter()
+    }
+}
+
 impl fmt::Debug for Definitions<'_> {
     fn fmt(&self, f: &mut fmt::Formatter<'_>) -> fmt::Result {
         f.debug_list().entries(self.iter()).finish()
+    }
+}
+
+/// The link definitions of a text, one after the other. [`Definitions::iter`] makes it.
+#[derive(Clone)]
+pub struct DefinitionIter<'d> {
+    records: &'d Records,
+    links: slice::Iter<'d, DefinitionRecord>,
+}
+
+impl<'d> Iterator for DefinitionIter<'d> {
+    type Item = Definition<'d>;
+
+    fn next(&mut self) -> Option<Definition<'d>> {
+        self.links.next().map(|link| Definition::new(link, self.records))
+    }
+
+    fn size_hint(&self) -> (usize, Option<usize>) {
+        self.links.size_hint()
+    }
+}
+
+impl<'d> DoubleEndedIterator for DefinitionIter<'d> {
+    fn next_back(&mut self) -> Option<Definition<'d>> {
+        self.links.next_back().map(|link| Definition::new(link, self.records))
+    }
+}
+
+impl ExactSizeIterator for DefinitionIter<'_> {}
+
+impl FusedIterator for DefinitionIter<'_> {}
+
+impl fmt::Debug for DefinitionIter<'_> {
+    fn fmt(&self, f: &mut fmt::Formatter<'_>) -> fmt::Result {
+        f.debug_list().entries(self.clone()).finish()
     }
 }
 
@@ -114,10 +203,11 @@ impl<'d> Definition<'d> {
     }
 }
 
-/// The label with each run of white space as one space, as labels of definitions are.
-fn with_single_spaces(label: &str) -> Result<String, Error> {
+/// A space, the label with each run of white space as one space, as labels of definitions are, and a space.
+fn between_spaces(label: &str) -> Result<String, Error> {
     let mut single = String::new();
-    single.try_reserve_exact(label.len()).map_err(|_| Error::OutOfMemory)?;
+    single.try_reserve_exact(label.len() + 2).map_err(|_| Error::OutOfMemory)?;
+    single.push(' ');
     for character in label.chars() {
         if !is_white(character) {
             single.push(character);
@@ -125,6 +215,7 @@ fn with_single_spaces(label: &str) -> Result<String, Error> {
             single.push(' ');
         }
     }
+    single.push(' ');
     Ok(single)
 }
 

@@ -13,7 +13,7 @@ use std::fmt;
 /// ```
 /// use first_pass::{Body, Options};
 ///
-/// let document = first_pass::parse("# One\n\ntext\n", Options::all())?;
+/// let document = first_pass::parse("# One\n\ntext\n", Options::COMMONMARK)?;
 /// let heading = document.tree().root().children().next().unwrap();
 /// assert!(matches!(heading.body(), Body::Heading { level: 1, .. }));
 /// assert_eq!(heading.slice(), "# One\n");
@@ -32,7 +32,8 @@ pub fn parse(text: &str, options: Options) -> Result<Document<'_>, Error> {
 
 /// The text without the byte order mark that it may begin with, for [`parse`] and [`Parser::parse_with`].
 ///
-/// These take the mark for a character of the text. Without it, offsets are counted from after it.
+/// These take the mark for a character of the text: `# a` after one is no heading. If you leave it out, all ranges are
+/// those of the text that this call returns, which is [`Document::text`] too, and not those of the file.
 ///
 /// ```
 /// use first_pass::{Options, strip_bom};
@@ -55,7 +56,7 @@ pub struct Document<'t> {
 }
 
 impl<'t> Document<'t> {
-    /// The text.
+    /// The text that was parsed. It outlives the document, so `&document.text()[node.range()]` does too.
     pub fn text(&self) -> &'t str {
         self.text
     }
@@ -81,7 +82,7 @@ impl fmt::Debug for Document<'_> {
 ///
 /// let mut parser = Parser::new();
 /// for (text, headings) in [("# a\n# b\n", 2), ("c\n", 0)] {
-///     let count = parser.parse_with(text, Options::all(), |tree| tree.outline().count())?;
+///     let count = parser.parse_with(text, Options::COMMONMARK, |tree| tree.outline().count())?;
 ///     assert_eq!(count, headings);
 /// }
 /// # Ok::<(), first_pass::Error>(())

@@ -24,16 +24,22 @@
 //!
 //! # What the ranges mean
 //!
-//! Ranges are offsets in bytes, on character boundaries, so `&text[node.range()]` never panics. Siblings don't
-//! overlap, and a node lies within its parent. There is one exception: a [`Body::TaskListMarker`] may start before the
-//! paragraph, the heading or the title of a definition list that it is the first child of. It then lies in the same
-//! list item. NUL is a byte of the text like any other. So is a byte order mark, unless [`strip_bom`] leaves it out.
+//! Ranges are offsets in bytes, on character boundaries, so `&text[node.range()]` never panics. It lives as
+//! long as the text, and [`Node::slice`] as long as the [`Document`]. Siblings don't overlap, and a node lies within
+//! its parent. There is one exception: a [`Body::TaskListMarker`] may start before the paragraph, the heading or the
+//! title of a definition list that it is the first child of. It then lies in the same list item. NUL is a byte of the
+//! text like any other. So is a byte order mark, unless [`strip_bom`] leaves it out.
 //!
 //! # The linked library
 //!
 //! The parser is the static archive `libfirst_pass.a`. The build script takes it from the folder that the environment
-//! variable `FIRST_PASS_DIR` names. Without that variable, it takes it from the folder that pkg-config knows. The
-//! build fails with a message if there is no archive, or one of another version.
+//! variable `FIRST_PASS_DIR` names. Without that variable, it takes it from the folder that pkg-config knows, which is
+//! right with the package `libfirst-pass-dev`. The build fails with a message if there is no archive, or one of another
+//! version.
+//!
+//! The documents of the library are in `/usr/share/doc/libfirst-pass-dev`, or in `PREFIX/share/first_pass` if you ran
+//! `./run lib PREFIX`. Of these `LIBRARY.md` has what a client of the tree needs to know, and `GRAMMAR.md` what each
+//! kind of node is.
 //!
 //! What the archive returns is proved: the tree is the one that the block grammar derives from the text. This crate is
 //! the layer that owns the memory and gives names, and is tested. It panics if an archive returns what no archive of
@@ -41,7 +47,7 @@
 
 pub use attributes::{Alignment, Alignments, Attribute, Attributes};
 pub use body::{BlockQuoteKind, Body, MetadataBlockKind};
-pub use definitions::{Definition, Definitions};
+pub use definitions::{Definition, DefinitionIter, Definitions};
 pub use document::{Document, Parser, parse, strip_bom};
 pub use error::Error;
 pub use events::{Event, OffsetIter};

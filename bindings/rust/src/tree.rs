@@ -2,6 +2,7 @@
 
 use crate::records::{NodeRecord, Records};
 use crate::{Body, Definitions, Heading, OffsetIter, archive};
+use std::borrow::Cow;
 use std::fmt;
 use std::ops::Range;
 
@@ -60,7 +61,7 @@ impl<'d> Tree<'d> {
         self.nodes().filter_map(Heading::of_node)
     }
 
-    /// The link definitions.
+    /// The link definitions: the first of each label.
     pub fn definitions(self) -> Definitions<'d> {
         Definitions::new(self.records)
     }
@@ -126,12 +127,16 @@ impl<'d> Node<'d> {
     }
 
     /// The text of its range. It has the prefixes of containers, as `> `, of each line but the first.
+    ///
+    /// The slice lives as long as the document. `&text[node.range()]`, of the text that was parsed, lives as long as that
+    /// text.
     pub fn slice(self) -> &'d str {
         &self.tree.text[self.range()]
     }
 
     /// Where the text has the info string of a fenced code block, the label of a footnote definition, or the attributes
     /// of a heading, between the braces. `None` of a node of another kind, and of a heading without an attribute block.
+    /// Of a code block without info string it is an empty range after the fence. [`Node::code`] has the code.
     ///
     /// The range has the bytes as they are written, with escapes and references. It begins and ends between two
     /// characters.
@@ -145,6 +150,33 @@ impl<'d> Node<'d> {
     /// ```
     pub fn string_range(self) -> Option<Range<usize>> {
         archive::string_range(self.tree.text, self.record())
+    }
+
+    /// The code of a fenced or an indented code block, and `None` of a node of another kind.
+    ///
+    /// It has no prefixes of containers, and no indentation that belongs to a container or the block: of a tab, the
+    /// spaces that are left. Each line has its line ending, `\n` for `\r\n`, and the last line has one only if the text
+    /// has it. It is borrowed if the text has it in one piece.
+    ///
+    /// ```
+    /// # use first_pass::Options;
+    /// let document = first_pass::parse("> ~~~ rust\r\n> a\r\n>\t\tb\r\n> ~~~\n", Options::COMMONMARK)?;
+    /// let codes: Vec<_> = document.tree().nodes().filter_map(|node| node.code()).collect();
+    /// assert_eq!(codes, ["a\n  \tb\n"]);
+    /// # Ok::<(), first_pass::Error>(())
+    /// ```
+    pub fn code(self) -> Option<Cow<'d, str>> {
+        if !matches!(self.body(), Body::FencedCodeBlock { .. } | Body::IndentCodeBlock) {
+            return None;
+        }
+        let mut code = Cow::Borrowed("");
+        for child in self.children() {
+            code += match child.body() {
+                Body::SynthesizeText { text } => text,
+                _ => child.slice(),
+            };
+        }
+        Some(code)
     }
 
     /// Its children in reading order.

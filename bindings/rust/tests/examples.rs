@@ -69,7 +69,8 @@ fn link_checker() {
          {name}:8: nothing refers to [unused]\n"
     );
     assert_eq!(shown(&output), (Some(1), wanted.as_str(), ""));
-    let output = example("link_checker").arg(file("none.md", "[a] `b`\n\n[a]: c")).output();
+    let text = "[a] `b` [d\n] [ E ][]\n\n[a]: c\n[ d ]: f\n[e]: g\n";
+    let output = example("link_checker").arg(file("none.md", text)).output();
     assert_eq!(shown(&output.unwrap()), (Some(0), "", ""));
 }
 

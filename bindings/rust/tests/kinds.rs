@@ -3,6 +3,7 @@
 use first_pass::{
     Alignment, Attribute, BlockQuoteKind, Body, Document, MetadataBlockKind, Options, parse,
 };
+use std::borrow::Cow;
 
 fn document(text: &str, options: Options) -> Document<'_> {
     parse(text, options).expect("memory suffices")
@@ -27,6 +28,31 @@ fn leaf_blocks() {
     assert_bodies("<div>\n", none, &[Body::HtmlBlock, Body::Html]);
     assert_bodies("~~~ a&amp;b\nc\n~~~\n", none, &[Body::FencedCodeBlock { info: "a&b" }, TEXT]);
     assert_bodies("~~~\n~~~\n", none, &[Body::FencedCodeBlock { info: "" }]);
+}
+
+/// The codes of all nodes that have one, and whether each is borrowed.
+fn codes(text: &str) -> Vec<(String, bool)> {
+    let document = document(text, Options::COMMONMARK);
+    let codes = document.tree().nodes().filter_map(|node| node.code());
+    codes.map(|code| (code.to_string(), matches!(code, Cow::Borrowed(_)))).collect()
+}
+
+#[test]
+fn code() {
+    for (text, wanted, is_borrowed) in [
+        ("> ~~~\n>\t\tx", "  \tx", false),
+        ("~~~ a\r\nb\r\n\r\nc\r\n~~~\r\n", "b\n\nc\n", false),
+        ("> ~~~\n> a\n>\n>  b\n", "a\n\n b\n", false),
+        ("~~~\na\\&amp;\n\n b\n~~~\n", "a\\&amp;\n\n b\n", true),
+        ("    a\n\n \t\tb\n\n", "a\n\n\tb\n", false),
+        ("-\t\ta\n\n\t\tb", "  a\n\n  b", false),
+        ("~~~\n~~~\n", "", true),
+        ("~~~", "", true),
+        ("~~~\na\rb", "a\rb", true),
+    ] {
+        assert_eq!(codes(text), [(wanted.to_string(), is_borrowed)], "{text:?}");
+    }
+    assert_eq!(codes("a `b`\n\n<pre>\nc\n</pre>\n"), []);
 }
 
 #[test]

@@ -76,7 +76,8 @@ fn look_up() {
     let text: String = (0..9).map(|at| format!("[{at}]: b\n")).collect();
     let document = first_pass::parse(&text, Options::empty()).unwrap();
     let requests = refuse_each(|| document.tree().definitions().get("3"));
-    assert!(requests >= 3, "{requests}");
+    assert_eq!(requests, 3, "a label, its key, and the key of another label");
+    assert_eq!(refuse_each(|| document.tree().definitions().get(" \n")), 0);
 }
 
 #[test]

@@ -41,13 +41,61 @@ fn look_up_as_references_match() -> Result<(), Error> {
     for label in ["ẞ", "ß", "SS", "ss", "sS"] {
         assert_eq!(find(label)?, Some("2"), "{label:?}");
     }
-    for (label, wanted) in [(" A", Some("3")), ("\ta", Some("3")), ("\\]", Some("4"))] {
-        assert_eq!(find(label)?, wanted, "{label:?}");
+    for (label, wanted) in [(" A", "3"), ("\ta", "3"), ("a", "3"), ("a\r\n", "3"), ("\\]", "4")] {
+        assert_eq!(find(label)?, Some(wanted), "{label:?}");
     }
+    assert_eq!(find("one two ")?, Some("1"));
     assert_eq!((find("É")?, find("E\u{301}")?), (Some("5"), None));
-    for label in ["", " ", "a", "a ", "]", "one", "one two ", "one\u{a0}two", "z\0"] {
+    for label in ["", " ", "\t\n\x0b\x0c\r ", "]", "one", "one\u{a0}two", "\u{a0}a", "z\0"] {
         assert_eq!(find(label)?, None, "{label:?}");
     }
+    Ok(())
+}
+
+/// White space at the ends of a label doesn't count: of the definitions whose labels differ in it alone, the one that
+/// begins first is found, by each of their labels.
+#[test]
+fn look_up_by_the_ends_of_labels() -> Result<(), Error> {
+    for (text, wanted, count) in [
+        ("[ only ]: /1\n\n[only]", "/1", 1),
+        ("[ only ]: /1\n[only]: /2", "/1", 2),
+        ("[only]: /2\n[ only ]: /1", "/2", 2),
+        ("[only ]: /3\n[ only ]: /1\n[ only]: /4\n[only]: /2", "/3", 4),
+        ("[a]: /a\n[ Only]: /4\n[only]: /2\n[only ]: /3\n[zz]: /z\n[\tonly\n]: /1", "/4", 6),
+    ] {
+        let document = parse(text, Options::COMMONMARK)?;
+        let definitions = document.tree().definitions();
+        assert_eq!(definitions.len(), count, "{text:?}");
+        for label in ["only", " ONLY", "only\n", "\t Only \r\n"] {
+            let found = definitions.get(label)?.expect("it is defined");
+            assert_eq!(found.destination, wanted, "{text:?} {label:?}");
+        }
+        assert_eq!((definitions.get("onl")?, definitions.get(" ")?), (None, None));
+    }
+    let document = parse("[\tA  b ]: /1\n[ ]: /2", Options::COMMONMARK)?;
+    let definitions = document.tree().definitions();
+    assert_eq!(definitions.get("a B")?.map(|it| it.label), Some(" A b "));
+    assert_eq!(definitions.get("\na\t\tb")?, definitions.get(" a b ")?);
+    assert_eq!((definitions.len(), definitions.get("ab")?, definitions.get(" ")?), (1, None, None));
+    Ok(())
+}
+
+#[test]
+fn definitions_one_after_the_other() -> Result<(), Error> {
+    let document = parse("[b]: /2\n[A]: /1\n[a]: /3\n[c]: /4\n", Options::COMMONMARK)?;
+    let definitions = document.tree().definitions();
+    let mut destinations = Vec::new();
+    for definition in definitions {
+        destinations.push(definition.destination);
+    }
+    assert_eq!(destinations, ["/1", "/2", "/4"]);
+    for (definition, destination) in (&definitions).into_iter().rev().zip(["/4", "/2", "/1"]) {
+        assert_eq!(definition.destination, destination);
+    }
+    let mut iter = definitions.iter();
+    assert_eq!(iter.len(), 3);
+    assert!(iter.next().is_some());
+    assert_eq!((iter.len(), format!("{iter:?}").matches("Definition {").count()), (2, 2));
     Ok(())
 }
 

@@ -4,10 +4,10 @@ from __future__ import annotations
 
 import builtins
 import operator
-from collections.abc import Iterator, Mapping, Sequence
+from collections.abc import ItemsView, Iterator, Mapping, Sequence, ValuesView
 from typing import TYPE_CHECKING, Any, Union, overload
 
-from ._library import COMPATIBLE, LineIndex, fold_label, string_range
+from ._library import COMPATIBLE, LineIndex, key_of, string_range
 from ._records import ATTRIBUTE, BYTE_COLUMNS, DEFINITION, KINDS, NODE, WORD_BYTES, WORD_COLUMNS, Kind
 from ._values import Attribute, Definition, Heading, Node, Place, Span, id_of
 
@@ -20,6 +20,8 @@ _ATTRIBUTE_KINDS = ("id", "class", "key")
 _HEADING = Kind.Heading.number
 _BREAKS = (Kind.SoftBreak.number, Kind.HardBreak.number)
 _ESCAPABLE = (Kind.Text.number, Kind.MaybeCode.number)
+_CODE_BLOCKS = (Kind.FencedCodeBlock.number, Kind.IndentCodeBlock.number)
+_SYNTHESIZED = Kind.SynthesizeText.number
 _BYTE_PLACES = {name: WORD_BYTES * len(WORD_COLUMNS) + place for place, name in enumerate(BYTE_COLUMNS)}
 
 
@@ -71,8 +73,7 @@ class Document(Sequence[Node]):
 
     @property
     def definitions(self) -> Definitions:
-        """The link definitions by label. A label is matched as that of a reference is: without regard to case, and
-        each run of white space as one space."""
+        """The link definitions by label, matched as in CommonMark 4.7: see `Definitions`."""
         if self._by_label is None:
             self._by_label = Definitions(self._definitions[: self._links_end()], self._strings)
         return self._by_label
@@ -123,7 +124,8 @@ class Document(Sequence[Node]):
         """A column of all records of nodes, as integers. It is a strided view, and no copy.
 
         The columns are ``start end depth next string_start string_length number``, and
-        ``kind first second third``. Of a `Kind` the column has the `number`.
+        ``kind first second third``. The column ``kind`` has the `number` of each `Kind`, and ``list(Kind)[number]`` is
+        that kind. `Node.members` says which values of a kind ``number first second third`` have.
         """
         if name in _BYTE_PLACES:
             return memoryview(self._nodes)[_BYTE_PLACES[name] :: NODE.size]
@@ -139,7 +141,9 @@ class Document(Sequence[Node]):
         return numpy.frombuffer(self._nodes, numpy.dtype(fields))
 
     def children(self, index: int = 0) -> Iterator[int]:
-        """The indices of the children of a node."""
+        """The indices of the children of the node with an index."""
+        if not -len(self) <= index < len(self):
+            raise IndexError(f"there is no node {index}: the document has {len(self)}")
         after = self.column("next")
         end, child = after[index], index % len(self) + 1
         while child < end:
@@ -148,8 +152,8 @@ class Document(Sequence[Node]):
 
     def find(self, kind: Kind | str) -> Iterator[int]:
         """The indices of the nodes of a kind, in reading order: ``document[index]`` is such a node. The kind is a `Kind`
-        or its name; ``KeyError`` says that there is none of a name."""
-        number = kind.number if isinstance(kind, Kind) else Kind[kind].number
+        or its name; ``KeyError`` says that there is none of a name. It reads one column, and makes no `Node`."""
+        number = kind.number if isinstance(kind, Kind) else _kind_called(kind).number
         if self._kinds is None:
             self._kinds = bytes(self.column("kind"))
         found = self._kinds.find(number)
@@ -170,11 +174,29 @@ class Document(Sequence[Node]):
         attributes of a heading, between the braces. None of a node of another kind, and of a heading without an
         attribute block.
 
-        The range has the bytes as they are written, with escapes and references.
+        The range has the bytes as they are written, with escapes and references. Of a code block without info string
+        it is an empty range after the fence. `code` has the code.
         """
         place = range(len(self))[index] * NODE.size
         found = string_range(self._source, self._nodes[place : place + NODE.size])
         return None if found is None else Span(*found)
+
+    def code(self, index: int) -> str | None:
+        """The code of the fenced or indented code block with an index. None of a node of another kind.
+
+        It has no prefixes of containers, and no indentation that belongs to a container or the block: of a tab, the
+        spaces that are left. Each line has its line ending, ``\\n`` for ``\\r\\n``. The last line has one only if the text
+        has it.
+        """
+        place = range(len(self))[index]
+        _, _, _, after, _, _, _, kind, _, _, _ = NODE.unpack_from(self._nodes, place * NODE.size)
+        if kind not in _CODE_BLOCKS:
+            return None
+        records = NODE.iter_unpack(memoryview(self._nodes)[(place + 1) * NODE.size : after * NODE.size])
+        return b"".join(
+            self._strings[string : string + length] if child == _SYNTHESIZED else self._source[start:end]
+            for start, end, _, _, string, length, _, child, _, _, _ in records
+        ).decode()
 
     def line_column(self, offset: int, encoding: str = "utf-16") -> Place:
         """The line and the column of an offset in bytes, such as the start of a node, both from 1.
@@ -258,7 +280,13 @@ class Document(Sequence[Node]):
 class Definitions(Mapping[str, Definition]):
     """The link definitions of a document by label, in the byte order of the labels' foldings.
 
-    Its keys are the labels as they are spelled. A look-up matches a label as that of a reference is matched.
+    A look-up matches labels as in CommonMark 4.7: without regard to case and to white space at the ends of a label, and
+    each run of white space as one space. Of the definitions of a label it finds the one that begins first in the text.
+    A label of white space alone has none.
+
+    The keys are the labels as they are spelled, each run of white space as one space. Of several definitions of a label
+    only the first is there. Labels that differ in white space at their ends are several keys: `values` and `items` have
+    the definition of each, and a look-up finds the one that counts.
     """
 
     __slots__ = ("_records", "_strings", "_places")
@@ -270,11 +298,19 @@ class Definitions(Mapping[str, Definition]):
 
     def __getitem__(self, label: str) -> Definition:
         if self._places is None:
-            self._places = {fold_label(spelled): place for place, spelled in enumerate(self)}
-        place = self._places.get(fold_label(label)) if isinstance(label, str) else None
+            self._places = self._places_by_key()
+        place = self._places.get(key_of(label)) if isinstance(label, str) else None
         if place is None:
             raise KeyError(label)
         return self._definition(place)
+
+    def values(self) -> ValuesView[Definition]:
+        """All definitions."""
+        return _Values(self)
+
+    def items(self) -> ItemsView[str, Definition]:
+        """Each label as it is spelled, and its definition."""
+        return _Items(self)
 
     def __iter__(self) -> Iterator[str]:
         for _, _, label, length, *_ in DEFINITION.iter_unpack(self._records):
@@ -288,6 +324,18 @@ class Definitions(Mapping[str, Definition]):
 
     def _string(self, start: int, length: int) -> str:
         return self._strings[start : start + length].decode()
+
+    def _places_by_key(self) -> dict[bytes | None, int]:
+        """The place of the first definition in the text of each key."""
+        starts = [start for start, *_ in DEFINITION.iter_unpack(self._records)]
+        keys = [key_of(spelled) for spelled in self]
+        places: dict[bytes | None, int] = {}
+        for place in sorted(range(len(keys)), key=starts.__getitem__):
+            places.setdefault(keys[place], place)
+        return places
+
+    def _all(self) -> Iterator[Definition]:
+        return map(self._definition, range(len(self)))
 
     def _definition(self, place: int) -> Definition:
         record = DEFINITION.unpack_from(self._records, place * DEFINITION.size)
@@ -303,6 +351,37 @@ class Definitions(Mapping[str, Definition]):
             Span(destination_start, destination_end),
             Span(title_start, end) if has_title else None,
         )
+
+
+class _Values(ValuesView[Definition]):
+    """All definitions, also those that no look-up finds."""
+
+    _mapping: Definitions
+
+    def __contains__(self, value: object) -> bool:
+        return any(value == definition for definition in self)
+
+    def __iter__(self) -> Iterator[Definition]:
+        return self._mapping._all()
+
+
+class _Items(ItemsView[str, Definition]):
+    """Each label with its definition, also those that no look-up finds."""
+
+    _mapping: Definitions
+
+    def __contains__(self, item: object) -> bool:
+        return any(item == pair for pair in self)
+
+    def __iter__(self) -> Iterator[tuple[str, Definition]]:
+        return ((definition.label, definition) for definition in self._mapping._all())
+
+
+def _kind_called(name: object) -> Kind:
+    """The kind with a name."""
+    if name not in Kind.__members__:
+        raise KeyError(f"there is no kind {name!r}: the kinds are {', '.join(Kind.__members__)}")
+    return Kind.__members__[str(name)]
 
 
 def _restored(form: str, *records: Any) -> Document:

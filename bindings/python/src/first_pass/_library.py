@@ -65,11 +65,11 @@ _line_column.argtypes = [ctypes.c_char_p, ctypes.c_size_t, ctypes.c_void_p, ctyp
 _WHITE = re.compile(rb"[\t\n\x0b\x0c\r ]+")
 
 
-def fold_label(label: str) -> bytes | None:
-    """What a label is compared by: each run of white space as one space, with full case folding. None stands for a
-    label that UTF-8 can't hold."""
+def key_of(label: str) -> bytes | None:
+    """What a label is compared by: without white space at its ends, each run of white space as one space, with full
+    case folding. None stands for a label that UTF-8 can't hold."""
     try:
-        spelled = _WHITE.sub(b" ", str.encode(label))
+        spelled = _WHITE.sub(b" ", str.encode(label)).strip(b" ")
     except UnicodeEncodeError:
         return None
     return _folded(spelled, 3 * len(spelled) + 1)

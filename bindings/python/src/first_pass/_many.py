@@ -57,6 +57,9 @@ def parse_many(
 ) -> Iterator[Result]:
     """Parses texts in threads, and yields their documents in the same order.
 
+    It takes texts ahead. Don't take items elsewhere from an iterator that the texts are made of: to pair paths with
+    documents, use a list of paths.
+
     A thread takes texts in chunks of about ``chunk_bytes``. Two chunks for each thread are taken ahead, so memory
     stays bounded. Without ``threads`` there are as many as processors; with one, the caller's thread parses. A text
     that can be changed, such as a ``bytearray``, is copied when it is taken. So it can be filled again for the next.
@@ -71,6 +74,8 @@ def parse_many(
     count = processors() if threads is None else threads
     if count < 1 or chunk_bytes < 1:
         raise ValueError("threads and chunk_bytes have to be at least 1")
+    if isinstance(texts, (str, bytes, bytearray)):
+        raise TypeError(f"texts are an iterable of texts, and no {type(texts).__name__}: parse reads one text")
     if on_error not in ("raise", "yield"):
         raise ValueError(f"on_error is raise or yield, and not {on_error}")
     parse_text = partial(parse, options=options, strip_bom=strip_bom)

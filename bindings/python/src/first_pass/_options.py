@@ -8,9 +8,12 @@ import enum
 class Options(enum.IntFlag):
     """Extensions of CommonMark, and four sets of them.
 
-    ``COMMONMARK`` is empty, and the default of each call. ``GITHUB`` is what GitHub reads: tables, footnotes,
-    strikethrough, task lists, and tags of block quotes. ``DOCS`` adds what documentation uses: YAML metadata, heading
-    attributes, math and definition lists. ``ALL`` is all.
+    ``COMMONMARK`` is empty, and the default of each call. ``GITHUB`` has tables, footnotes, strikethrough, task lists,
+    and tags of block quotes, but no front matter, math or bare addresses. ``DOCS`` adds what documentation uses: YAML
+    metadata, heading attributes, math and definition lists. ``ALL`` is all. Join them by ``|``, as ``Options.GITHUB |
+    Options.YAML_STYLE_METADATA_BLOCKS``. `from_names` reads names, as ``"github,math"``.
+
+    ``GFM`` alone has only tags of block quotes, as ``[!NOTE]``. ``WIKILINKS`` is accepted without an effect.
     """
 
     COMMONMARK = 0

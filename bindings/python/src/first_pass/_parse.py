@@ -26,6 +26,10 @@ def parse(text: Text, options: int = Options.COMMONMARK, *, strip_bom: bool = Fa
     Other threads of the interpreter run meanwhile. `InputError` says what is wrong with the text or the options.
     ``MemoryError`` says that memory ran out.
     """
+    if isinstance(options, str):
+        raise TypeError(
+            f"options are of Options, and no str: Options.from_names reads names, as {str.__str__(options)!r}"
+        )
     bits = operator.index(options)
     if not 0 <= bits < _OPTION_LIMIT:
         raise InputError(f"bad options: {int(bits)}", BAD_OPTIONS)

@@ -27,7 +27,7 @@ class Heading(NamedTuple):
     id: str | None
     """The id that its attribute block gives."""
     text: str
-    """Its Markdown, with a space for each line ending."""
+    """Its content as Markdown, as ``a *b* &amp; c``, with a space for each line ending."""
 
 
 class Span(NamedTuple):
@@ -90,7 +90,30 @@ class Node(NamedTuple):
 
     def members(self) -> dict[str, Any]:
         """The kind, the depth, the range and the values of the kind, as the command ``tree`` writes them of the node:
-        ``{"kind": "Heading", "depth": 1, "start": 0, "end": 15, "level": 1, ..}``. The kind is its name."""
+        ``{"kind": "Heading", "depth": 1, "start": 0, "end": 15, "level": 1, ..}``. The kind is its name.
+
+        These kinds have values. In parentheses is the member of the node that has a value, or the column.
+
+        - Heading: level (first), id, classes, attributes
+        - FencedCodeBlock: info (string)
+        - BlockQuote: quote (first), as ``"Note"`` of ``[!NOTE]``, or None
+        - List: tight (first), byte (second), which is that of its markers, number (number), which is its first
+        - ListItem, DefinitionListDefinition: columns (number) that a line needs to continue it
+        - FootnoteDefinition: label (string)
+        - MetadataBlock: metadata (first), ``"YamlStyle"`` or ``"PlusesStyle"``
+        - DefinitionList: tight (first)
+        - Table: alignments (string), ``"none"``, ``"left"``, ``"center"`` or ``"right"`` of each column
+        - Text: escaped (first): whether a backslash before it was dropped
+        - HardBreak: by_backslash (first)
+        - MaybeEmphasis: remaining (number) delimiters of its run, can_open (first), can_close (second)
+        - MaybeMath: can_open (first), can_close (second), context (number), which is its brace context
+        - MaybeSmartQuote: byte (second), can_open (first), can_close (third)
+        - MaybeCode: count (number) of backquotes, escaped (first): whether a backslash stands before them
+        - MaybeLinkClose: active (first)
+        - SynthesizeText: text (string) that stands for the bytes of its range
+        - SynthesizeChar: text (number, a code point) that stands for the bytes of its range
+        - TaskListMarker: checked (first)
+        """
         members = {"kind": self.kind.value, "depth": self.depth, "start": self.start, "end": self.end}
         own = _OWN_MEMBERS.get(self.kind)
         return members if own is None else {**members, **own(self)}
