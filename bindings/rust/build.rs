@@ -21,7 +21,13 @@ fn main() {
 
 /// The folder of an archive of this version: that of `FIRST_PASS_DIR`, or else the one that pkg-config knows.
 fn find_folder() -> Result<PathBuf, String> {
-    let named = match env::var_os("FIRST_PASS_DIR") {
+    let variable = env::var_os("FIRST_PASS_DIR");
+    let hint = if variable.is_some() && ask_pkg_config().is_some() {
+        ": unset FIRST_PASS_DIR, since pkg-config knows the library"
+    } else {
+        ""
+    };
+    let named = match variable {
         Some(folder) => PathBuf::from(folder),
         None => ask_pkg_config().ok_or_else(|| {
             format!(
@@ -30,9 +36,9 @@ fn find_folder() -> Result<PathBuf, String> {
             )
         })?,
     };
-    let folder = fs::canonicalize(&named).map_err(|e| format!("{}: {e}", named.display()))?;
+    let folder = fs::canonicalize(&named).map_err(|e| format!("{}: {e}{hint}", named.display()))?;
     if !folder.join(ARCHIVE).is_file() {
-        return Err(format!("there is no {ARCHIVE} in {}", folder.display()));
+        return Err(format!("there is no {ARCHIVE} in {}{hint}", folder.display()));
     }
     check_version(&folder)?;
     Ok(folder)

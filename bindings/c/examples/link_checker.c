@@ -108,7 +108,7 @@ int main(void) {
         free(text);
         return ferror(stdin) ? 2 : 0;
     }
-    enum first_pass_status status = first_pass_parse(text, (size_t)length, FIRST_PASS_OPT_ALL, NULL, &tree);
+    enum first_pass_status status = first_pass_parse(text, (size_t)length, FIRST_PASS_OPT_GITHUB, NULL, &tree);
     if (status != FIRST_PASS_OK) {
         fprintf(stderr, "link_checker: %s\n", first_pass_status_message(status));
         return 2;

@@ -53,7 +53,9 @@ static int print_outline(const char *name) {
         return 2;
     }
     struct first_pass_tree *tree;
-    enum first_pass_status status = first_pass_parse(text, length, FIRST_PASS_OPT_ALL, NULL, &tree);
+    /* (what GitHub reads, and the ids of headings, as `# One {#one}`) */
+    uint32_t options = FIRST_PASS_OPT_GITHUB | FIRST_PASS_OPT_HEADING_ATTRIBUTES;
+    enum first_pass_status status = first_pass_parse(text, length, options, NULL, &tree);
     free(text);
     if (status != FIRST_PASS_OK) {
         fprintf(stderr, "outline: %s: %s\n", name, first_pass_status_message(status));

@@ -29,7 +29,7 @@ fn run() -> Result<bool, Box<dyn Error>> {
     for file in env::args_os().skip(1).map(PathBuf::from) {
         let name = file.display();
         let text = fs::read_to_string(&file).map_err(|e| format!("{name}: {e}"))?;
-        let document = first_pass::parse(&text, Options::all())?;
+        let document = first_pass::parse(&text, Options::GITHUB)?;
         let index = LineIndex::new(&text)?;
         for (offset, report) in check(document.tree())? {
             let place = index.line_column(offset).expect("a node is in the text");

@@ -1,4 +1,6 @@
 //! Prints the headings of Markdown files, each indented by its level: `cargo run --example outline -- FILE..`
+//!
+//! It reads what GitHub does, and the id of a heading as `# One {#one}` has it.
 
 use first_pass::{Options, Parser, Tree};
 use std::error::Error;
@@ -21,7 +23,8 @@ fn run() -> Result<(), Box<dyn Error>> {
     let mut parser = Parser::new();
     for file in env::args_os().skip(1).map(PathBuf::from) {
         let text = fs::read_to_string(&file).map_err(|e| format!("{}: {e}", file.display()))?;
-        let lines = parser.parse_with(&text, Options::all(), outline)?;
+        let options = Options::GITHUB | Options::ENABLE_HEADING_ATTRIBUTES;
+        let lines = parser.parse_with(&text, options, outline)?;
         io::stdout().write_all(lines.as_bytes())?;
     }
     Ok(())
