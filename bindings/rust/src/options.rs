@@ -72,9 +72,10 @@ options! {
 impl Options {
     /// CommonMark: no option. This is the default.
     pub const COMMONMARK: Options = Options(0);
-    /// What GitHub reads: tables, footnotes, strikethrough, task lists, and tags of block quotes.
+    /// Of GitHub: tables, footnotes, strikethrough, task lists, and tags of block quotes; no front matter, mathematics or
+    /// bare addresses.
     pub const GITHUB: Options = Options(2078);
-    /// What documentation uses: what GitHub reads, YAML metadata, heading attributes, mathematics and definition lists.
+    /// What documentation uses: [`Options::GITHUB`], YAML metadata, heading attributes, mathematics and definition lists.
     pub const DOCS: Options = Options(7390);
     /// All options.
     pub const ALL: Options = Options(65534);
@@ -86,7 +87,7 @@ impl Options {
         Options::COMMONMARK
     }
 
-    /// The set of all options: [`Options::ALL`].
+    /// The set of all options: [`Options::ALL`]. With it `# impl {T}` is the heading `impl`, since attributes are read.
     pub const fn all() -> Options {
         Options::ALL
     }

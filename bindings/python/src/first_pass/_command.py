@@ -82,7 +82,8 @@ def _read_words(words: Sequence[str] | None) -> argparse.Namespace:
     )
     parser.add_argument("--version", action="version", version=f"first_pass {__version__}")
     parser.add_argument("command", choices=("outline", "tree"), metavar="{outline,tree}")
-    parser.add_argument("files", nargs="*", metavar="FILE")
+    # (without a default, a message would ask for it)
+    parser.add_argument("files", nargs="*", metavar="FILE", default=[])
     names = "the extensions to read: names or sets (commonmark, github, docs, all) with commas between them, or a value"
     parser.add_argument("-o", "--options", type=_options, action=_Union, default=0, metavar="NAMES", help=names)
     mark = "leave out a byte order mark at the start of a text, and count offsets from after it"

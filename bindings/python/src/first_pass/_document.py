@@ -330,7 +330,7 @@ class Definitions(Mapping[str, Definition]):
         starts = [start for start, *_ in DEFINITION.iter_unpack(self._records)]
         keys = [key_of(spelled) for spelled in self]
         places: dict[bytes | None, int] = {}
-        for place in sorted(range(len(keys)), key=starts.__getitem__):
+        for place in sorted(range(len(keys)), key=lambda place: starts[place]):
             places.setdefault(keys[place], place)
         return places
 
