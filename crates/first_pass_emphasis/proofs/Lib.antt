@@ -1,6 +1,7 @@
 pub mod Bottoms
 pub mod Lists
 pub mod Marks
+pub mod Nestings
 pub mod Normal
 pub mod Openers
 pub mod Outside

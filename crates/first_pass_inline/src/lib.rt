@@ -9,5 +9,5 @@ pub mod labels;
 pub mod laws;
 mod look;
 pub mod mark;
-mod pair;
+pub mod pair;
 mod walk;

@@ -7,14 +7,14 @@ use crate::mark::{Mark, Name, ReferenceForm, Span, Target};
 
 /// A place in a content: an offset, and the index of the first token that ends after it.
 #[derive(Clone, Copy, PartialEq, Eq)]
-pub(crate) struct Place {
+pub struct Place {
     pub index: usize,
     pub offset: usize,
 }
 
 /// What begins at a place: its mark, and the place after it.
 #[derive(Clone, Copy, PartialEq, Eq)]
-pub(crate) enum View {
+pub enum View {
     AtEnd,
     /// A bracket that may open a pair.
     Opens(Mark, Place),
@@ -26,7 +26,7 @@ pub(crate) enum View {
 
 /// A pair of brackets.
 #[derive(Clone, Copy, PartialEq, Eq)]
-pub(crate) struct Pair {
+pub struct Pair {
     pub is_image: bool,
     /// Whether it is directly after an opening bracket.
     pub is_inner: bool,
@@ -46,7 +46,7 @@ pub(crate) struct Pair {
 
 /// A reference: its form, its label, and the place after it.
 #[derive(Clone, Copy, PartialEq, Eq)]
-pub(crate) struct Reference {
+pub struct Reference {
     pub form: ReferenceForm,
     pub label: Span,
     pub end: usize,
@@ -54,7 +54,7 @@ pub(crate) struct Reference {
 
 /// What a pair is.
 #[derive(Clone, Copy, PartialEq, Eq)]
-pub(crate) enum Verdict {
+pub enum Verdict {
     Text,
     /// Text, since no definition has this label: its own one, or that of the pair after it. With the place after both.
     Undefined {
