@@ -42,6 +42,24 @@ check_refusal() {
     if run "$@" || ! grep -qF -- "$words" "$room/seen"; then fault "$what"; fi
 }
 
+# The lines of a page from the first that matches, without its indentation, up to one that is indented less.
+page_lines() {
+    awk -v first="$2" '{ match($0, /^ */) } !on && $0 ~ first { on = RLENGTH } on && RLENGTH < on && /./ { exit }
+        on { print substr($0, on + 1) }' "$top/$1"
+}
+
+# Checks that the program in Rust of the README writes what that says, if its line in Cargo.toml names the crate below a
+# prefix in place of /usr: check_app WHAT PREFIX.
+check_app() {
+    local wanted
+    wanted=$(sed -n 's/^The program below prints `\(.*\)` and `\(.*\)`\. .*/\1\n\2/p' "$top/README.md")
+    mkdir -p "$room/app/src"
+    printf '[package]\nname = "app"\nedition = "2024"\n[dependencies]\n' > "$room/app/Cargo.toml"
+    page_lines README.md '^    first_pass = ' | sed "s#/usr#$2#" >> "$room/app/Cargo.toml"
+    page_lines README.md '^    use first_pass::' > "$room/app/src/main.rs"
+    check_lines "$1" "$wanted" env -C "$room/app" cargo run --quiet --offline
+}
+
 # Says how much was checked. The status is 1 if something isn't so.
 end_checks() {
     echo "$tests: $count checks, $failed failed"

@@ -389,36 +389,6 @@ static int leave_node(const struct first_pass_node *node, void *data) {
     return seen->end_at == 1000u + node->kind ? -3 : 0;
 }
 
-/* Whether the code of the first code block of a text is this, joined as the header says. */
-static bool has_code(const char *text, const char *wanted) {
-    struct first_pass_tree *tree = parsed(text, strlen(text));
-    char code[100];
-    size_t length = 0, i = 0;
-    while (tree->nodes[i].kind != FIRST_PASS_NODE_FENCED_CODE_BLOCK &&
-           tree->nodes[i].kind != FIRST_PASS_NODE_INDENT_CODE_BLOCK) {
-        i++;
-    }
-    for (size_t c = first_pass_first_child(tree, i); c != 0; c = first_pass_next_sibling(tree, c)) {
-        const struct first_pass_node *node = &tree->nodes[c];
-        bool is_string = node->kind == FIRST_PASS_NODE_SYNTHESIZE_TEXT;
-        size_t count = is_string ? node->string_length : node->end - node->start;
-        memcpy(code + length, is_string ? first_pass_node_string(tree, node) : text + node->start, count);
-        length += count;
-    }
-    first_pass_tree_free(tree);
-    return length == strlen(wanted) && memcmp(code, wanted, length) == 0;
-}
-
-static void test_code(void) {
-    CHECK(has_code("> ~~~\n>\t\tx", "  \tx"));
-    CHECK(has_code("~~~ a\r\nb\r\n\r\nc\r\n~~~\r\n", "b\n\nc\n"));
-    CHECK(has_code("> ~~~\n> a\n>\n>  b\n", "a\n\n b\n"));
-    CHECK(has_code("    a\n\n \t\tb\n\n", "a\n\n\tb\n"));
-    CHECK(has_code("-\t\ta\n\n\t\tb", "  a\n\n  b"));
-    CHECK(has_code("~~~\n~~~\n", "") && has_code("~~~", ""));
-    CHECK(has_code("~~~\na\rb", "a\rb"));
-}
-
 static void test_walk(void) {
     struct first_pass_tree *tree = parsed(sample, strlen(sample));
     struct seen seen = {.tree = tree};
@@ -573,7 +543,6 @@ int main(void) {
     test_walk();
     test_children();
     test_strings();
-    test_code();
     test_allocator();
     test_string_ranges();
     test_versions();
