@@ -1,7 +1,7 @@
 # What the tests in bash have in common, for bash with `set -u`: they count checks, and show what failed. A test sets
 # `name`, which its messages begin with, reads tools/common.bash and this file, and makes the folder `room`.
 # shellcheck shell=bash
-# shellcheck disable=SC2154  # the variables of the test
+# shellcheck disable=SC2154,SC2016  # the variables of the test, and the backquotes of pages
 tests=$name count=0 failed=0
 
 # Notes that something isn't so, and shows what a command wrote.
