@@ -14,8 +14,8 @@
 //! - The first line, if there is one, is the number of requests before the call. If one request of a run is refused,
 //!   another number makes it another request of the call.
 //! - The next line has the call and its arguments: for `parse` (`run_first_pass`) the value of the options; for
-//!   `blocks`, `tree` and `bench` the words of that program; for `words` nothing, since it takes those of this
-//!   program; for a call of a tree, of tables or of a table nothing.
+//!   `blocks`, `links`, `tree` and `bench` the words of that program; for `words` nothing, since it takes those of
+//!   this program; for a call of a tree, of tables or of a table nothing.
 //! - The text follows, each line after a bar, and then the expected output of the program. In both, a tab is written
 //!   as its picture, `␉`.
 //!

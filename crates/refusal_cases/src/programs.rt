@@ -10,7 +10,7 @@ use first_pass_host::words::words_of;
 use first_pass_items::item::Item;
 use first_pass_names::items::Allocations;
 use first_pass_program::bench::bench_run;
-use first_pass_program::run::{blocks_run, tree_run};
+use first_pass_program::run::{blocks_run, links_run, tree_run};
 use first_pass_reports::printed::links::append_link;
 use first_pass_reports::printed::node::append_node;
 use std::alloc::{AllocError, Global};
@@ -66,7 +66,9 @@ fn call_once(rt: &HostRuntime, case: &Case<'_>) -> Option<Outcome> {
     match case.call {
         "parse" => Some(parse(rt.alloc(), case).unwrap_or(Outcome::Elsewhere)),
         "words" => Some(take_words(rt, case)),
-        "blocks" | "tree" | "bench" => Some(run(rt.alloc(), case).unwrap_or(Outcome::Elsewhere)),
+        "blocks" | "links" | "tree" | "bench" => {
+            Some(run(rt.alloc(), case).unwrap_or(Outcome::Elsewhere))
+        }
         _ => None,
     }
 }
@@ -121,6 +123,7 @@ fn run(alloc: Global, case: &Case<'_>) -> Result<Outcome, AllocError> {
     let mut input = case.text.as_bytes();
     let answer = match case.call {
         "blocks" => blocks_run(alloc, words, &mut input, &mut page),
+        "links" => links_run(alloc, words, &mut input, &mut page),
         "tree" => tree_run(alloc, words, &mut input, &mut page),
         _ => bench_run(&mut Ticks { nanos: 0 }, alloc, words, &mut input, &mut page),
     };
