@@ -1,12 +1,14 @@
 -- The marks of a level, one after another.
-use Rattle.std.proofs.Common.{◌≡◌, ℕ, zero, suc, ◌+◌, ◌-◌, ◌<◌, ◌≤◌, get_or, ◌==◌, Bool, true, false, List, [], ◌∷◌, ◌++◌, length, drop, refl, sym, ap, ◌∙◌, arith, nat_lt, if◌then◌else◌}
+use Rattle.std.proofs.Common.{◌≡◌, ℕ, zero, suc, ◌+◌, ◌-◌, ◌<◌, ◌≤◌, get_or, ◌==◌, Bool, true, false, List, [], ◌∷◌, ◌++◌, length, drop, refl, sym, ap}
+use Rattle.std.proofs.Common.{◌∙◌, arith, nat_lt, if◌then◌else◌}
 use Rattle.std.proofs.lemmas.Bool.Decides.{nat_tests}
 use Rattle.std.proofs.lemmas.Grind.{common_steps}
 use Rattle.std.proofs.lemmas.List.{drop_all, drop_more}
 use Rattle.first_pass_items.specs.declared.option_set.Options.{Options}
 use Rattle.first_pass_inline.specs.declared.mark.Mark.{Mark}
 use Rattle.first_pass_inline.specs.declared.mark.MarkKind.{MarkKind}
-use Rattle.first_pass_inline.specs.declared.mark.MarkKind.TheVariants.{Token, Code, Math, RawHtml, Autolink, FootnoteReference, Link, LinkEnd, Name, NameEnd, Undefined}
+use Rattle.first_pass_inline.specs.declared.mark.MarkKind.TheVariants.{Token, Code, Math, RawHtml, Autolink, FootnoteReference, Link, LinkEnd, Name}
+use Rattle.first_pass_inline.specs.declared.mark.MarkKind.TheVariants.{NameEnd, Undefined}
 use Rattle.first_pass_emphasis.specs.declared.token.Side.{Side}
 use Rattle.first_pass_emphasis.specs.declared.token.Side.TheVariants.{Before, After, Within}
 use Rattle.first_pass_emphasis.specs.declared.token.Token.TheVariants.{Other as OtherToken}

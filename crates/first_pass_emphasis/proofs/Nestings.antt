@@ -1,5 +1,6 @@
 -- The brackets of the marks of a chain are paired, and in one way.
-use Rattle.std.proofs.Common.{◌≡◌, ℕ, Bool, true, false, List, [], ◌∷◌, ◌++◌, length, slice_get, nat_lt, Option, Some, None, refl, sym, ap, ◌∙◌, subst, append_assoc, append-nil, if◌then◌else◌, ◌+◌, ◌-◌}
+use Rattle.std.proofs.Common.{◌≡◌, ℕ, Bool, true, false, List, [], ◌∷◌, ◌++◌, length, slice_get, nat_lt, Option, Some, None, refl, sym, ap, ◌∙◌, subst}
+use Rattle.std.proofs.Common.{append_assoc, append-nil, if◌then◌else◌, ◌+◌, ◌-◌}
 use Rattle.std.specs.Option.{option_map_or}
 use Rattle.first_pass_items.specs.declared.item.ItemBody.{ItemBody}
 use Rattle.first_pass_items.specs.declared.item.ItemBody.TheVariants.{MaybeCode, MaybeHtml, MaybeLinkOpen, MaybeLinkClose, MaybeImage, MaybeMath}
@@ -19,9 +20,11 @@ use Rattle.first_pass_inline.specs.declared.pair.Verdict.{Verdict}
 use Rattle.first_pass_inline.specs.declared.pair.Verdict.TheVariants.{Text, Undefined, Link, FootnoteReference, Name}
 use Rattle.first_pass_inline.specs.declared.pair.View.{View}
 use Rattle.first_pass_inline.specs.declared.pair.View.TheVariants.{AtEnd, Opens, Closes, Piece}
-use Rattle.first_pass_inline.specs.Look.{Chain, look, view_code, view_token, view_body, view_html, view_math, view_raw, code_piece, math_piece, plain, after_token, token_from, mark_of}
+use Rattle.first_pass_inline.specs.Look.{Chain, look, view_code, view_token, view_body, view_html, view_math, view_raw, code_piece, math_piece, plain}
+use Rattle.first_pass_inline.specs.Look.{after_token, token_from, mark_of}
 use Rattle.first_pass_inline.specs.Marks.{AreMarks, IsSequence, marks, note_marks, pair_marks, undefined_mark}
-use Rattle.first_pass_inline.specs.Sequences.{Sequence, Ends, Single as OneMark, Stray, Bracket, Paired, Where, after_bracket, after_pair, is_image, later, past}
+use Rattle.first_pass_inline.specs.Sequences.{Sequence, Ends, Single as OneMark, Stray, Bracket, Paired, Where, after_bracket, after_pair, is_image}
+use Rattle.first_pass_inline.specs.Sequences.{later, past}
 use Rattle.first_pass_emphasis.specs.declared.token.Side.{Side}
 use Rattle.first_pass_emphasis.specs.declared.token.Side.TheVariants.{Before, After, Within}
 use Rattle.first_pass_emphasis.specs.Levels.{IsNested, IsNestingOf, Nested, Nothing, Single, Inner, flat}

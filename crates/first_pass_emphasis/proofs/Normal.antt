@@ -1,5 +1,6 @@
 -- What tokens are reduced to is the normal form of the rewriting step.
-use Rattle.std.proofs.Common.{◌≡◌, ℕ, zero, suc, ◌-◌, ◌<◌, ◌≤◌, Bool, true, false, List, [], ◌∷◌, Option, Some, None, MatchOption, refl, sym, ap, ◌∙◌, subst, arith, if◌then◌else◌}
+use Rattle.std.proofs.Common.{◌≡◌, ℕ, zero, suc, ◌-◌, ◌<◌, ◌≤◌, Bool, true, false, List, [], ◌∷◌, Option, Some, None, MatchOption, refl, sym, ap, ◌∙◌}
+use Rattle.std.proofs.Common.{subst, arith, if◌then◌else◌}
 use Rattle.std.specs.Prelude.{⊤}
 use Rattle.std.specs.Option.{option_map, option_map_or}
 use Rattle.std.proofs.lemmas.Grind.{common_steps}
@@ -11,7 +12,8 @@ use Rattle.first_pass_emphasis.specs.declared.role.Role.{Role}
 use Rattle.first_pass_emphasis.specs.declared.role.Role.TheVariants.{Text}
 use Rattle.first_pass_emphasis.specs.Runs.{fits, width}
 use Rattle.first_pass_emphasis.specs.Parts.{Delimiters, Other, Part, Quotation}
-use Rattle.first_pass_emphasis.specs.Pieces.{Pieces, Begin, Plain, Runs, Formatted, Opener, then_plain, then_run, then_formatted, opener, paired, closed, followed_by, reduced}
+use Rattle.first_pass_emphasis.specs.Pieces.{Pieces, Begin, Plain, Runs, Formatted, Opener, then_plain, then_run, then_formatted, opener, paired, closed}
+use Rattle.first_pass_emphasis.specs.Pieces.{followed_by, reduced}
 use Rattle.first_pass_emphasis.specs.Redex.{read_after, read, or_else, rewritten, redex, Becomes, IsNormalForm}
 use Rattle.first_pass_emphasis.proofs.Steps.{fits_left, width_within}
 use Rattle.first_pass_emphasis.proofs.Runs.{nothing_left}

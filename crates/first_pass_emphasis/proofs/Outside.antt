@@ -1,5 +1,6 @@
 -- What stands before a level changes nothing in it.
-use Rattle.std.proofs.Common.{◌≡◌, ℕ, zero, suc, ◌-◌, List, [], ◌∷◌, ◌++◌, Bool, true, false, Option, Some, None, refl, sym, ap, ◌∙◌, append_assoc, append-nil, if◌then◌else◌}
+use Rattle.std.proofs.Common.{◌≡◌, ℕ, zero, suc, ◌-◌, List, [], ◌∷◌, ◌++◌, Bool, true, false, Option, Some, None, refl, sym, ap, ◌∙◌, append_assoc}
+use Rattle.std.proofs.Common.{append-nil, if◌then◌else◌}
 use Rattle.std.specs.Option.{option_map, option_map_or}
 use Rattle.first_pass_emphasis.specs.declared.run.Run.{Run}
 use Rattle.first_pass_emphasis.specs.declared.role.Format.{Format}
@@ -7,7 +8,8 @@ use Rattle.first_pass_emphasis.specs.declared.role.Role.{Role}
 use Rattle.first_pass_emphasis.specs.declared.role.Role.TheVariants.{Text}
 use Rattle.first_pass_emphasis.specs.Runs.{fits, width}
 use Rattle.first_pass_emphasis.specs.Parts.{Delimiters, Other, Part, Quotation}
-use Rattle.first_pass_emphasis.specs.Pieces.{Pieces, Begin, Plain, Runs, Formatted, Opener, then_plain, then_run, then_formatted, opener, paired, closed, followed_by, reduced, roles}
+use Rattle.first_pass_emphasis.specs.Pieces.{Pieces, Begin, Plain, Runs, Formatted, Opener, then_plain, then_run, then_formatted, opener, paired, closed}
+use Rattle.first_pass_emphasis.specs.Pieces.{followed_by, reduced, roles}
 
 -- pieces after others, of which only the roles are known
 abbrev behind : List Role → Pieces → Pieces

@@ -1,5 +1,6 @@
 -- The walk over the marks of a chain, level by level.
-use Rattle.std.proofs.Common.{◌≡◌, ◌⊎◌, inl, inr, ℕ, suc, ◌+◌, ◌-◌, List, [], ◌∷◌, ◌++◌, length, take, drop, replicate, refl, sym, ap, ◌∙◌, arith, append_assoc, append-nil, length-append, false}
+use Rattle.std.proofs.Common.{◌≡◌, ◌⊎◌, inl, inr, ℕ, suc, ◌+◌, ◌-◌, List, [], ◌∷◌, ◌++◌, length, take, drop, replicate, refl, sym, ap, ◌∙◌, arith}
+use Rattle.std.proofs.Common.{append_assoc, append-nil, length-append, false}
 use Rattle.std.proofs.lemmas.List.{length-drop, length-replicate, take_all, take_at, drop_at}
 use Rattle.first_pass_items.specs.declared.option_set.Options.{Options}
 use Rattle.first_pass_inline.specs.declared.mark.Mark.{Mark}
@@ -17,7 +18,8 @@ use Rattle.first_pass_emphasis.specs.Parts.{Part, Delimiters, Quotation, Other, 
 use Rattle.first_pass_emphasis.specs.Quotes.{quoted}
 use Rattle.first_pass_emphasis.specs.Stacks.{IsLevel, IsQuotedLevel}
 use Rattle.first_pass_emphasis.specs.Tokens.{HasMarks, count_of, counted, more_of, side_of, token_of}
-use Rattle.first_pass_emphasis.specs.Walks.{Around, Whole, Within as WithinLevel, Holds, IsAround, IsReadLevel, IsSettled, IsWalkBefore, after, inner, level_in, levels_around, outside, quotes_before, runs_before, whole}
+use Rattle.first_pass_emphasis.specs.Walks.{Around, Whole, Within as WithinLevel, Holds, IsAround, IsReadLevel, IsSettled, IsWalkBefore, after, inner}
+use Rattle.first_pass_emphasis.specs.Walks.{level_in, levels_around, outside, quotes_before, runs_before, whole}
 use Rattle.first_pass_emphasis.proofs.Marks.{counted_same, skipped, skipped_flat, skipped_nested, skipped_parts, token_same}
 use Rattle.first_pass_emphasis.proofs.Pairs.{same_runs}
 

@@ -34,7 +34,7 @@ then_run r n o = record { before = o.before; run = o.run; left = o.left; after =
 abbrev pub then_formatted : Format → ℕ → Pieces → Opener → Opener
 then_formatted f w x o = record { before = o.before; run = o.run; left = o.left; after = Formatted o.after f w x }
 
--- the last run that can be the opener of a closer, of which so many delimiters are left (CommonMark 6.2, rules 14 to 16)
+-- the last run that can be the opener of a closer, of which so many delimiters are left (CommonMark 6.2)
 abbrev pub opener : Pieces → Run → ℕ → Option Opener
 opener Begin c more = None
 opener (Plain p ms) c more = option_map (then_plain ms) (opener p c more)

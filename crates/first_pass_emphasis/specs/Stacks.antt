@@ -1,5 +1,6 @@
 -- The state of the pass over a level. Only contracts of private functions cite this.
-use Rattle.std.specs.Prelude.{◌≡◌, ℕ, ◌+◌, ◌-◌, replicate, ◌<◌, ◌≤◌, if◌then◌else◌, Bool, true, false, List, [], ◌∷◌, ◌++◌, length, slice_get, Option, Some, MatchOption}
+use Rattle.std.specs.Prelude.{◌≡◌, ℕ, ◌+◌, ◌-◌, replicate, ◌<◌, ◌≤◌, if◌then◌else◌, Bool, true, false, List, [], ◌∷◌, ◌++◌, length, slice_get, Option}
+use Rattle.std.specs.Prelude.{Some, MatchOption}
 use Rattle.first_pass_emphasis.specs.declared.run.Run.{Run}
 use Rattle.first_pass_emphasis.specs.declared.run.PlacedRun.{PlacedRun}
 use Rattle.first_pass_emphasis.specs.declared.quotes.PlacedQuote.{PlacedQuote}

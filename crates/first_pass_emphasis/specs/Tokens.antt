@@ -1,5 +1,6 @@
 -- What a mark is in its level.
-use Rattle.std.specs.Prelude.{◌≡◌, ◌⊎◌, ◌≤◌, length, ℕ, zero, suc, ◌+◌, ◌-◌, ◌&&◌, ◌==◌, not, Bool, false, nat_lt, List, [], ◌∷◌, slice_get, Option, Some, None, if◌then◌else◌, unwrap_or}
+use Rattle.std.specs.Prelude.{◌≡◌, ◌⊎◌, ◌≤◌, length, ℕ, zero, suc, ◌+◌, ◌-◌, ◌&&◌, ◌==◌, not, Bool, false, nat_lt, List, [], ◌∷◌, slice_get, Option, Some}
+use Rattle.std.specs.Prelude.{None, if◌then◌else◌, unwrap_or}
 use Rattle.first_pass_items.specs.Bytes.{tilde}
 use Rattle.first_pass_items.specs.OptionWords.{has, strikethrough, subscript}
 use Rattle.first_pass_items.specs.declared.item.ItemBody.{ItemBody}
